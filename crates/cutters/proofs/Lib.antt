@@ -1,0 +1,4 @@
+pub mod Order
+pub mod RingTest
+pub mod RingRule
+pub mod Discs

@@ -1,0 +1,33 @@
+// The flat cutter behind the interface.
+ghost use Rattle.cutters.specs.Flats.{flat-shape};
+use crate::Cutter;
+use crate::Flat;
+use crate::disc::in_disc;
+use zmap::Offset;
+use zmap::Pitch;
+
+// Level over the disc, and covers nothing past it.
+pub impl Cutter for Flat as FlatCutter {
+    const REACH: i32 = 15;
+
+    ghost spacing = { λ t. t .pitch .microns };
+
+    ghost shape = { λ t. flat-shape (t .pitch .microns) (t .radius) };
+
+    ghost widest = { λ t. 15 };
+
+    fn pitch(&self) -> Pitch {
+        self.pitch
+    }
+
+    fn profile(&self, o: Offset) -> Option<u32> {
+        if in_disc(self.pitch, self.radius, o) {
+            return Some(0);
+        }
+        None
+    }
+
+    fn widest_reach(&self) -> i32 {
+        Self::REACH
+    }
+}

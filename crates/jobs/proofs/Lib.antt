@@ -1,0 +1,9 @@
+pub mod Checks
+pub mod ExactJobs
+pub mod ExactRuns
+pub mod ExactSections
+pub mod Exactness
+pub mod Flats
+pub mod Layouts
+pub mod RecordTurns
+pub mod WordTurns

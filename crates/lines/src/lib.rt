@@ -1,0 +1,5 @@
+// The text of the lines that the program prints.
+mod line;
+mod text;
+
+pub use line::Line;

@@ -1,0 +1,5 @@
+pub mod Calls
+pub mod Checks
+pub mod Cuts
+pub mod Losses
+pub mod Scans

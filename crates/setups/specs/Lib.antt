@@ -1,0 +1,4 @@
+pub mod Clamps
+pub mod Tables
+pub mod Surfaces
+pub mod SurfaceRange

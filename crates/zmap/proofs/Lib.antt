@@ -1,0 +1,3 @@
+pub mod ContactOrder
+pub mod Greatest
+pub mod HeightTest

@@ -1,0 +1,4 @@
+pub mod Limits
+pub mod Contacts
+pub mod Maps
+pub mod Faults
