@@ -22,6 +22,10 @@ pub record Tool : Type 0 where
   pub pitch : ℕ
   pub profile : Profile
 
+-- the cutter t, from what its kind tells of its pitch and profile
+abbrev pub tool-of : {C : Type 0} → (C → ℕ) → (C → Profile) → C → Tool
+tool-of spacing shape t = record { pitch = spacing t; profile = shape t }
+
 -- an accepted call: every check passes, the poses made carve the block, and the answer says what they removed
 pub record Cut (ks : List Check) (m : Guard) (P : Profile) (made : Pose → Type 0) (b b′ : List ℤ) (a : Removed) : Type 0 where
   pub passed : Passed ks

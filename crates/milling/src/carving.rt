@@ -51,13 +51,22 @@ fn lower(grid: &Grid, s: Node, u: i32, block: &mut [i32]) -> u32
     ensures fell { λ r. ⌜ r ≡ fall (getD (now (block .entry)) (place (now (grid .entry)) s) (pos 0)) u ⌝ }
     ensures block { λ r. ⌜ now (block .exit) ≡ set (now (block .entry)) (place (now (grid .entry)) s) (minZ (getD (now (block .entry)) (place (now (grid .entry)) s) (pos 0)) u) ⌝ }
 {
-    let i = s.row * grid.columns + s.column;
+    let i = place_on(grid, s);
     let was = block[i];
     if u < was {
         block[i] = u;
         return was.abs_diff(u);
     }
     0
+}
+
+// The place of a sample of the map.
+fn place_on(grid: &Grid, s: Node) -> usize
+    requires { ⌜ On (now grid) s ⌝ }
+    ensures value { λ r. ⌜ r ≡ place (now (grid .entry)) s ⌝ }
+    ensures inside { λ r. ⌜ r < size (now (grid .entry)) ⌝ }
+{
+    s.row * grid.columns + s.column
 }
 
 // The tally with one more sample, where it fell.

@@ -8,7 +8,7 @@ ghost use Rattle.std.specs.Results.{Cases};
 ghost use Rattle.zmap.specs.Limits.{Height};
 ghost use Rattle.zmap.specs.Maps.{On};
 ghost use Rattle.setups.specs.Surfaces.{guard-of};
-ghost use Rattle.milling.specs.Calls.{Posed};
+ghost use Rattle.milling.specs.Calls.{Posed, tool-of};
 ghost use Rattle.milling.specs.Checks.{Passed, Refused, formed, pose-at};
 use crate::Removed;
 use crate::carving::carve;
@@ -36,7 +36,7 @@ pub fn pose<F: Field, C: Cutter>(
     row: i32,
     tip: i32,
 ) -> Result<Removed, Fault>
-    ensures { λ r. ⌜ Posed (guard-of (F·Field .extent) (F·Field .surface) (now (guard .entry))) (record { pitch = C·Cutter .spacing (now (cutter .entry)); profile = C·Cutter .shape (now (cutter .entry)) }) (now (block .entry)) (now (block .exit)) column row tip r ⌝ }
+    ensures { λ r. ⌜ Posed (guard-of (F·Field .extent) (F·Field .surface) (now (guard .entry))) (tool-of (C·Cutter .spacing) (C·Cutter .shape) (now (cutter .entry))) (now (block .entry)) (now (block .exit)) column row tip r ⌝ }
 {
     let grid = guard.grid();
     let p = check(&grid, cutter.pitch(), block.len(), column, row, tip)?;
