@@ -1,1 +1,2 @@
+pub mod MoveLines
 pub mod Texts

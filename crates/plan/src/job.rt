@@ -4,7 +4,6 @@ ghost use Prim.Native.Nat.{_<_};
 ghost use Rattle.jobs.specs.Encodings.{Allowed};
 ghost use Rattle.jobs.specs.Jobs.{told};
 ghost use Rattle.setups.specs.Tables.{clamps-of};
-ghost use Rattle.plan.specs.Lines.{line-of};
 ghost use Rattle.plan.specs.Guards.{Fresh};
 use cutters::FlatCutter;
 use fields::Raster;
@@ -14,12 +13,10 @@ use jobs::Move;
 use jobs::Store;
 use jobs::read;
 use lines::Line;
-use milling::Removed;
 use milling::pose;
 use setups::Clamp;
 use setups::OpenSetup;
 use std::error::AnyError;
-use zmap::Fault;
 use zmap::Field;
 
 // Prints what each move of the job did, or why the bytes are no job.
@@ -56,7 +53,7 @@ fn carry_out(rt: &LibcRuntime, job: &Job) -> Result<(), AnyError>
     for (i, m) in job.moves.as_slice().iter().enumerate() {
         let Move::Pose { column, row, tip } = *m;
         let answer = pose(&guard, &job.cutter, block.as_mut_slice(), column, row, tip);
-        show(rt, line(i + 1, answer))?;
+        show(rt, Line::of_move(i + 1, answer))?;
     }
     Ok(())
 }
@@ -72,21 +69,6 @@ fn add_all<F: Field>(setup: &mut OpenSetup<F>, clamps: &[Clamp])
             Ok(_) => {}
             Err(_) => unreachable(),
         }
-    }
-}
-
-// The line of a move: its number, and what it answered.
-fn line(number: usize, answer: Result<Removed, Fault>) -> Line
-    ensures { λ r. ⌜ r ≡ line-of number answer ⌝ }
-{
-    match answer {
-        Ok(removed) => Line::Cut {
-            number,
-            samples: removed.samples,
-            loss: removed.loss,
-            contact: removed.contact,
-        },
-        Err(fault) => Line::Refused { number, fault },
     }
 }
 

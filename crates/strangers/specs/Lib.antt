@@ -1,0 +1,4 @@
+pub mod Hooks
+pub mod Ramps
+pub mod RampRange
+pub mod Trials
