@@ -3,6 +3,7 @@
 #
 #   python3 tests/oracle.py make N SEED [DIR]     writes N random jobs, DIR/K.job, and the lines of each, DIR/K.lines
 #   python3 tests/oracle.py run PROGRAM N SEED    runs N random jobs through the program: all agree, or the first difference
+import functools
 import os
 import random
 import struct
@@ -34,8 +35,19 @@ def grid_fault(columns, rows, pitch):
     return pitch_fault(pitch)
 
 
-def flat_fault(pitch, radius):
+def round_fault(pitch, radius):
     return pitch_fault(pitch) or (None if 0 <= radius <= 15999 and radius < 16 * pitch else 4)
+
+
+def cone_fault(pitch, radius, tip, rise):
+    return round_fault(pitch, radius) or (5 if not 0 <= tip <= radius else None) or (6 if not 0 <= rise <= 10000 else None)
+
+
+# A round cutter is its kind (1 flat, 2 cone, 3 ball), pitch, radius, tip radius and rise.
+def cutter_fault(kind, pitch, radius, tip, rise):
+    if kind not in (1, 2, 3):
+        return 29
+    return cone_fault(pitch, radius, tip, rise) if kind == 2 else round_fault(pitch, radius)
 
 
 def clamp_fault(columns, rows, west, north, east, south, height):
@@ -58,21 +70,42 @@ class Guard:
             self.told.append((height, "part" if height == below else "fixture"))
 
 
-def covers(pitch, radius, dx, dy):
-    return pitch ** 2 * (dx ** 2 + dy ** 2) <= radius ** 2
+# The largest h from 0 to top with the property, which holds at 0 and, once lost, stays lost.
+def largest(top, has):
+    low, high = 0, top + 1
+    while high - low > 1:
+        middle = (low + high) // 2
+        low, high = (middle, high) if has(middle) else (low, middle)
+    return low
 
 
-# The samples of the map under the cutter, in the order of the ring table.
-def covered(guard, radius, column, row):
+# The height of the cutter's underside above the tip, or nothing where the offset is not covered.
+@functools.lru_cache(maxsize=100000)
+def profile(cutter, dx, dy):
+    kind, pitch, radius, tip, rise = cutter
+    q = pitch ** 2 * (dx ** 2 + dy ** 2)
+    if q > radius ** 2:
+        return None
+    if kind == 1 or kind == 2 and q <= tip ** 2:
+        return 0
+    if kind == 2:
+        return largest(200000, lambda h: (1000 * h + rise * tip) ** 2 <= rise ** 2 * q) if rise else 0
+    return largest(radius, lambda h: (radius - h) ** 2 >= radius ** 2 - q)
+
+
+# The samples of the map under the cutter and its height over each, in the order of the ring table.
+def covered(guard, cutter, column, row):
     for dx, dy in RING:
         c, r = column + dx, row + dy
-        if covers(guard.pitch, radius, dx, dy) and 0 <= c < guard.columns and 0 <= r < guard.rows:
-            yield c, r
+        if 0 <= c < guard.columns and 0 <= r < guard.rows:
+            height = profile(cutter, dx, dy)
+            if height is not None:
+                yield c, r, height
 
 
 # What a pose answers, as the words after its number; where it is cut, the block is changed.
-def pose(guard, pitch, radius, block, column, row, tip):
-    if pitch != guard.pitch:
+def pose(guard, cutter, block, column, row, tip):
+    if cutter[1] != guard.pitch:
         return "no 17 0 0 0 clear"
     if len(block) != guard.columns * guard.rows:
         return "no 18 0 0 0 clear"
@@ -80,22 +113,22 @@ def pose(guard, pitch, radius, block, column, row, tip):
         return "no 19 0 0 0 clear"
     if not is_height(tip):
         return "no 20 0 0 0 clear"
-    under = list(covered(guard, radius, column, row))
+    under = list(covered(guard, cutter, column, row))
     if not under:
         return "no 21 0 0 0 clear"
     contact = "clear"
-    for c, r in under:
+    for c, r, up in under:
         height, kind = guard.told[r * guard.columns + c]
-        if tip < height:
+        if tip + up < height:
             return f"no 22 0 {c} {r} {kind}"
-        if tip == height and RANK[kind] > RANK[contact]:
+        if tip + up == height and RANK[kind] > RANK[contact]:
             contact = kind
     samples = loss = 0
-    for c, r in under:
+    for c, r, up in under:
         i = r * guard.columns + c
-        if block[i] > tip:
-            samples, loss = samples + 1, loss + block[i] - tip
-            block[i] = tip
+        if block[i] > tip + up:
+            samples, loss = samples + 1, loss + block[i] - tip - up
+            block[i] = tip + up
     return f"ok {samples} {loss} {contact}"
 
 
@@ -124,7 +157,7 @@ class Words:
         return n
 
 
-# The job of a byte string: grid, radius, heights, clamps and poses.
+# The job of a byte string: grid, cutter, heights, clamps and poses.
 def parse(text):
     if len(text) > 65536:
         raise Bad(30, 0, 0)
@@ -135,8 +168,9 @@ def parse(text):
     if fault:
         raise Bad(fault, 1, 0)
     words.count(2, 1, 1)
-    kind, radius, _, _ = words.record(4, 2, 0)
-    fault = 29 if kind != 1 else flat_fault(grid[2], radius)
+    kind, *sizes = words.record(4, 2, 0)
+    cutter = (kind, grid[2], *sizes)
+    fault = cutter_fault(*cutter)
     if fault:
         raise Bad(fault, 2, 0)
     samples = grid[0] * grid[1]
@@ -159,18 +193,18 @@ def parse(text):
         poses.append((column, row, tip))
     if words.at < len(text):
         raise Bad(30, 7, 0)
-    return grid, radius, heights, clamps, poses
+    return grid, cutter, heights, clamps, poses
 
 
 # What plan prints of a byte string.
 def lines(text):
     try:
-        grid, radius, heights, clamps, poses = parse(text)
+        grid, cutter, heights, clamps, poses = parse(text)
     except Bad as bad:
         return [str(bad)]
     guard = Guard(*grid, heights, clamps)
     block = [CEILING] * len(guard.told)
-    return [f"{i + 1} {pose(guard, grid[2], radius, block, *p)}" for i, p in enumerate(poses)]
+    return [f"{i + 1} {pose(guard, cutter, block, *p)}" for i, p in enumerate(poses)]
 
 
 # Random jobs.
@@ -190,6 +224,13 @@ def random_grid(rng):
 def random_radius(rng, pitch):
     top = min(15999, 16 * pitch - 1)
     return rng.choice([0, pitch - 1, pitch, 2 * pitch, 5 * pitch, top, rng.randint(0, top), rng.randint(0, 4 * pitch)])
+
+
+def random_cutter(rng, pitch):
+    kind, radius = rng.choice([1, 2, 3]), random_radius(rng, pitch)
+    if kind != 2:
+        return kind, pitch, radius, rng.randint(LOWEST, HIGHEST), 0
+    return kind, pitch, radius, rng.choice([0, radius, radius // 2, rng.randint(0, radius)]), rng.choice([0, 1, 1000, 10000, rng.randint(0, 10000)])
 
 
 def random_heights(rng, many):
@@ -213,12 +254,12 @@ def random_clamps(rng, columns, rows, heights, many):
     return clamps
 
 
-def random_pose(rng, guard, radius, poses):
+def random_pose(rng, guard, cutter, poses):
     if poses and rng.random() < 0.15:
         return rng.choice(poses)
     column, row = rng.randrange(guard.columns), rng.randrange(guard.rows)
     # The lowest tip that invades nothing here.
-    location = max(guard.told[r * guard.columns + c][0] for c, r in covered(guard, radius, column, row))
+    location = max(FLOOR, max(guard.told[r * guard.columns + c][0] - up for c, r, up in covered(guard, cutter, column, row)))
     kind = rng.randrange(20)
     if kind < 2:
         edges = [(-1, row), (guard.columns, row), (column, -1), (column, guard.rows), (LOWEST, row), (column, HIGHEST), (HIGHEST, LOWEST)]
@@ -238,14 +279,14 @@ def random_pose(rng, guard, radius, poses):
 
 def random_job(rng, grid, many_clamps, many_poses):
     columns, rows, pitch = grid
-    radius = random_radius(rng, pitch)
+    cutter = random_cutter(rng, pitch)
     heights = random_heights(rng, columns * rows)
     clamps = random_clamps(rng, columns, rows, heights, many_clamps)
     guard = Guard(*grid, heights, clamps)
     poses = []
     for _ in range(many_poses):
-        poses.append(random_pose(rng, guard, radius, poses))
-    words = [1, *grid, 1, 1, radius, rng.randint(LOWEST, HIGHEST), 0, len(heights), *heights, 0, 0, len(clamps)]
+        poses.append(random_pose(rng, guard, cutter, poses))
+    words = [1, *grid, 1, cutter[0], *cutter[2:], len(heights), *heights, 0, 0, len(clamps)]
     words += [w for clamp in clamps for w in clamp] + [len(poses)]
     words += [w for p in poses for w in (1, *p, rng.randint(-9, 9), LOWEST, HIGHEST)]
     return words

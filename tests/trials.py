@@ -8,8 +8,8 @@ import random
 import re
 import sys
 
-from oracle import CEILING, FLOOR, HIGHEST, LOWEST, Bad, Guard, clamp_fault, covers, flat_fault, grid_fault, is_height
-from oracle import lines, parse, pose, random_job, spell
+from oracle import CEILING, FLOOR, HIGHEST, LOWEST, Bad, Guard, clamp_fault, grid_fault, is_height
+from oracle import lines, parse, pose, profile, random_job, round_fault, spell
 
 ROOT = os.path.join(os.path.dirname(os.path.abspath(__file__)), "..", "crates", "trials")
 
@@ -36,7 +36,7 @@ def index(n):
 
 
 def cover(pitch, radius, dx, dy):
-    return "0" if covers(pitch, radius, dx, dy) else "nothing"
+    return "0" if profile((1, pitch, radius, 0, 0), dx, dy) == 0 else "nothing"
 
 
 def raster(*heights):
@@ -86,7 +86,7 @@ def renewed(long, place=None):
 # A pose with a cutter of radius 100 on a block with another height at each place.
 def posed(guard, pitch, long, column, row, tip):
     block = [400000 + i for i in range(long)]
-    text = pose(guard, pitch, 100, block, column, row, tip)
+    text = pose(guard, (1, pitch, 100, 0, 0), block, column, row, tip)
     return f"1 {text}" + (", kept" if block == [400000 + i for i in range(long)] else "")
 
 
@@ -102,7 +102,7 @@ def single(height, tip):
 def turn(count, place=None):
     guard, block, text = Guard(5, 1, 100, [0, 0, 0, 100, 0], [(2, 0, 2, 0, 50)]), [CEILING] * 5, "nothing"
     for p in table("turns.rt", "POSES")[:count]:
-        text = "1 " + pose(guard, 100, 100, block, *p)
+        text = "1 " + pose(guard, (1, 100, 100, 0, 0), block, *p)
     if place is None:
         return text
     return str(block[place]) if place < 5 else "nothing"
@@ -143,7 +143,7 @@ def faults():
 def answers():
     topics = [
         ("grid", "grids.rt", "GRIDS", lambda *w: number(grid_fault(*w))),
-        ("flat", "flats.rt", "FLATS", lambda *w: number(flat_fault(*w))),
+        ("flat", "flats.rt", "FLATS", lambda *w: number(round_fault(*w))),
         ("cover", "flats.rt", "OFFSETS", cover),
         ("raster", "rasters.rt", "SHORT", raster),
         ("raster", "rasters.rt", "WHOLE", raster),

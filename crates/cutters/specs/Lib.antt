@@ -1,5 +1,12 @@
 pub mod Making
 pub mod Profiles
 pub mod Rings
+pub mod Largest
 pub mod Discs
 pub mod Flats
+pub mod Cones
+pub mod Balls
+pub mod Entries
+pub mod Cells
+pub mod Tables
+pub mod RoundTools

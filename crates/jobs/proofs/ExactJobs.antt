@@ -16,7 +16,7 @@ use Rattle.jobs.specs.declared.bad.Bad.{Bad}
 use Rattle.jobs.specs.declared.job.Job.{Job}
 use Rattle.jobs.specs.declared.job.Move.{Move}
 use Rattle.jobs.specs.Parsers.{Reads}
-use Rattle.jobs.specs.Items.{Extent, Disc}
+use Rattle.jobs.specs.Items.{Extent, Turned}
 use Rattle.jobs.specs.Jobs.{Reading, told, sections, ended, parse}
 use Rattle.jobs.specs.Encodings.{MoveWords, Section, Words, Allowed, Encodes, Decodes}
 use Rattle.jobs.proofs.Exactness.{Exact, After, exact-then, exact-end, exact-same, ok-same, never}
@@ -24,7 +24,7 @@ use Rattle.jobs.proofs.Checks.{cond-takes}
 use Rattle.jobs.proofs.ExactSections.{First, Second, Third, Sixth, Bare, exact-grid, exact-cutter, exact-heights, exact-clamps, exact-moves, exact-none, all-unit}
 
 -- the words of the seven sections, one after another
-abbrev Ends : Extent → Disc → List ℤ → List Clamp → List Move → Reading → List ℤ → Type 0
+abbrev Ends : Extent → Turned → List ℤ → List Clamp → List Move → Reading → List ℤ → Type 0
 Ends g t hs ks ms j ws = (record { grid = g; cutter = t; heights = hs; clamps = ks; moves = ms } ≡ j) × (ws ≡ [])
 
 abbrev Laid : Reading → List ℤ → Type 0

@@ -11,7 +11,7 @@ use Rattle.std.specs.shelf.Lists.{All}
 use Rattle.setups.specs.declared.clamp.Clamp.{Clamp}
 use Rattle.jobs.specs.Parsers.{number}
 use Rattle.setups.specs.Clamps.{clamp-fault}
-use Rattle.jobs.specs.Items.{Extent, Disc, extent-of, disc-of, height-of, clamp-of, move-of}
+use Rattle.jobs.specs.Items.{Extent, Turned, extent-of, turned-of, height-of, clamp-of, move-of}
 use Rattle.jobs.specs.Sections.{count, grid-section, cutter-section, heights-section, clamps-section, moves-section}
 use Rattle.jobs.specs.Encodings.{Spells, GridWords, CutterWords, HeightWords, ClampWords, MoveWords, Section}
 use Rattle.jobs.proofs.Exactness.{Exact, exact-same}
@@ -22,7 +22,7 @@ use Rattle.jobs.proofs.Layouts.{Gridded, grid-takes, grid-gives, Fitted, cutte
 abbrev pub First : Extent → List ℤ → Type 0
 First g ws = Section GridWords (g ∷ []) ws × Gridded g
 
-abbrev pub Second : Extent → Disc → List ℤ → Type 0
+abbrev pub Second : Extent → Turned → List ℤ → Type 0
 Second g t ws = Section CutterWords (t ∷ []) ws × Fitted (g .pitch) t
 
 abbrev pub Third : Extent → List ℤ → List ℤ → Type 0
@@ -37,7 +37,7 @@ exact-grid = exact-single 3 extent-of GridWords Gridded grid-takes grid-gives 1
 
 pub exact-cutter : (g : Extent) → Exact (cutter-section (g .pitch)) (Second g)
 unfolding cutter-section
-exact-cutter g = exact-single 4 (disc-of (g .pitch)) CutterWords (Fitted (g .pitch)) (cutter-takes (g .pitch)) (cutter-gives (g .pitch)) 2
+exact-cutter g = exact-single 4 (turned-of (g .pitch)) CutterWords (Fitted (g .pitch)) (cutter-takes (g .pitch)) (cutter-gives (g .pitch)) 2
 
 pub exact-heights : (g : Extent) → Exact (heights-section (g .columns * g .rows)) (Third g)
 unfolding heights-section

@@ -1,24 +1,25 @@
 -- The words of each kind of record, read off from what they make. Assumes nothing.
 use mathlib.Core.Path.{_≡_, refl, sym, ap, _∙_, subst}
-use mathlib.Core.Bool.{cond}
+use mathlib.Core.Bool.{Bool, true, false, cond}
 use mathlib.Core.List.{List, [], _∷_}
 use Prim.Native.Nat.{ℕ, zero, suc, _*_, _≤_}
+use native.Mathlib.Omega.{arith}
 use borrow.Author.Tests.{leb-true, le-leb}
 use lib.Dec.{leb}
 use lib.IntN.{ℤ, pos, natAbs}
 use lib.ListN.{length}
-use Rattle.std.specs.declared.option.Option.the-variants.{None}
+use Rattle.std.specs.declared.option.Option.{Option}
+use Rattle.std.specs.declared.option.Option.the-variants.{Some, None}
 use Rattle.std.specs.declared.result.Result.the-variants.{Ok, Err}
 use Rattle.zmap.specs.Faults.{grid-fault}
 use Rattle.zmap.specs.declared.fault.Fault.the-variants as fault
-use Rattle.cutters.specs.Making.{flat-fault}
 use Rattle.setups.specs.declared.clamp.Clamp.{Clamp}
 use Rattle.jobs.specs.declared.job.Move.{Move}
 use Rattle.jobs.specs.declared.job.Move.the-variants.{Pose}
 use Rattle.setups.specs.Clamps.{clamp-fault}
-use Rattle.jobs.specs.Items.{nth, refusing, is-kind, Extent, extent-of, Disc, flat-of, disc-of, height-of, clamp-in, clamp-of, move-of}
+use Rattle.jobs.specs.Items.{nth, refusing, is-kind, Extent, extent-of, Turned, flat, cone, ball, turned-pitch, turned-fault, fitted, known, turned-in, turned-of, height-of, clamp-in, clamp-of, move-of}
 use Rattle.jobs.specs.Encodings.{GridWords, CutterWords, HeightWords, ClampWords, MoveWords}
-use Rattle.jobs.proofs.Exactness.{Made, ok-same}
+use Rattle.jobs.proofs.Exactness.{Made, never, ok-same}
 use Rattle.jobs.proofs.Checks.{refusing-takes, cond-takes, kind-takes, within-pos, grid-in}
 
 -- the values of f below n, in their order
@@ -66,28 +67,47 @@ grid-gives g us w a =
     subst (λ v. Made 3 extent-of g v) (sym w) (refl, n)
 
 -- a cutter that is allowed at the pitch
-abbrev pub Fitted : ℕ → Disc → Type 0
-Fitted pitch t = (t .pitch ≡ pitch) × (flat-fault (pos (t .pitch)) (t .radius) ≡ None)
+abbrev pub Fitted : ℕ → Turned → Type 0
+Fitted pitch t = (turned-pitch t ≡ pitch) × (turned-fault t ≡ None)
 
-pub cutter-takes : (pitch : ℕ) (t : Disc) (us : List ℤ) → Made 4 (disc-of pitch) t us → CutterWords t us × Fitted pitch t
-unfolding tabled flat-of
+known-takes : (o : Option Turned) (t : Turned) → known o ≡ Ok t → (o ≡ Some t) × (turned-fault t ≡ None)
+unfolding fitted
+known-takes None t h = absurd (never _ _ h)
+known-takes (Some u) t h =
+    let r = refusing-takes (turned-fault u) (Ok u) t h in
+    let e = ok-same u t (r .1) in
+    (ap Some e, subst (λ x. turned-fault x ≡ None) e (r .0))
+
+-- the words of a cutter, and its pitch
+abbrev Worded : ℕ → List ℤ → Turned → Type 0
+Worded pitch us t = CutterWords t us × (turned-pitch t ≡ pitch)
+
+some-same : (u t : Turned) → _≡_ {A = Option Turned} (Some u) (Some t) → u ≡ t
+some-same u t h = cc
+
+kinds : (pitch : ℕ) (us : List ℤ) (t : Turned) (a b c : Bool) → us ≡ nth us 0 ∷ nth us 1 ∷ nth us 2 ∷ nth us 3 ∷ [] →
+    (a ≡ true → nth us 0 ≡ pos 1) → (b ≡ true → nth us 0 ≡ pos 2) → (c ≡ true → nth us 0 ≡ pos 3) →
+    cond a (Some (flat pitch (nth us 1))) (cond b (Some (cone pitch (nth us 1) (nth us 2) (nth us 3))) (cond c (Some (ball pitch (nth us 1))) None)) ≡ Some t → Worded pitch us t
+kinds pitch us t true b c s one two three h = subst (Worded pitch us) (some-same _ t h) ((nth us 2, nth us 3, s ∙ ap (λ k. k ∷ nth us 1 ∷ nth us 2 ∷ nth us 3 ∷ []) (one refl)), refl)
+kinds pitch us t false true c s one two three h = subst (Worded pitch us) (some-same _ t h) (s ∙ ap (λ k. k ∷ nth us 1 ∷ nth us 2 ∷ nth us 3 ∷ []) (two refl), refl)
+kinds pitch us t false false true s one two three h = subst (Worded pitch us) (some-same _ t h) ((nth us 2, nth us 3, s ∙ ap (λ k. k ∷ nth us 1 ∷ nth us 2 ∷ nth us 3 ∷ []) (three refl)), refl)
+kinds pitch us t false false false s one two three h = absurd (let z : _≡_ {A = ℕ} 0 1 = cc in omega arith)
+
+pub cutter-takes : (pitch : ℕ) (t : Turned) (us : List ℤ) → Made 4 (turned-of pitch) t us → CutterWords t us × Fitted pitch t
+unfolding tabled
 cutter-takes pitch t us m =
-    let s = spread 4 us (m .0) in
-    let k = cond-takes (is-kind 1 (nth us 0)) (flat-of pitch (nth us 1)) fault.Kind t (m .1) in
-    let r = refusing-takes (flat-fault (pos pitch) (nth us 1)) _ t (k .1) in
-    let e = ok-same _ t (r .1) in
-    let er : nth us 1 ≡ t .radius = ap (λ x. x .radius) e in
-    let ep : pitch ≡ t .pitch = ap (λ x. x .pitch) e in
-    let ek = kind-takes 1 (nth us 0) (k .0) in (
-      (nth us 2, nth us 3, s ∙ rw (ek, er)),
-      (sym ep, ap (λ x. flat-fault (pos x) (t .radius)) (sym ep) ∙ ap (λ x. flat-fault (pos pitch) x) (sym er) ∙ r .0),
-    )
+    let k = known-takes (turned-in pitch us) t (m .1) in
+    let w = kinds pitch us t (is-kind 1 (nth us 0)) (is-kind 2 (nth us 0)) (is-kind 3 (nth us 0)) (spread 4 us (m .0)) (kind-takes 1 (nth us 0)) (kind-takes 2 (nth us 0)) (kind-takes 3 (nth us 0)) (k .0) in
+    (w .0, (w .1, k .1))
 
-pub cutter-gives : (pitch : ℕ) (t : Disc) (us : List ℤ) → CutterWords t us → Fitted pitch t → Made 4 (disc-of pitch) t us
-unfolding flat-of
-cutter-gives pitch t us w a =
-    let n : flat-of (t .pitch) (t .radius) ≡ Ok t = ap (λ o. refusing o (Ok t)) (a .1) in
-    subst (λ v. Made 4 (disc-of pitch) t v) (sym (w .2)) (refl, ap (λ p. flat-of p (t .radius)) (sym (a .0)) ∙ n)
+pub cutter-gives : (pitch : ℕ) (t : Turned) (us : List ℤ) → CutterWords t us → Fitted pitch t → Made 4 (turned-of pitch) t us
+unfolding fitted
+cutter-gives pitch (flat p r) us w a =
+    subst (λ v. Made 4 (turned-of pitch) (flat p r) v) (sym (w .2)) (refl, subst (λ x. fitted (flat x r) ≡ Ok (flat p r)) (a .0) (ap (λ o. refusing o (Ok (flat p r))) (a .1)))
+cutter-gives pitch (cone p r t s) us w a =
+    subst (λ v. Made 4 (turned-of pitch) (cone p r t s) v) (sym w) (refl, subst (λ x. fitted (cone x r t s) ≡ Ok (cone p r t s)) (a .0) (ap (λ o. refusing o (Ok (cone p r t s))) (a .1)))
+cutter-gives pitch (ball p r) us w a =
+    subst (λ v. Made 4 (turned-of pitch) (ball p r) v) (sym (w .2)) (refl, subst (λ x. fitted (ball x r) ≡ Ok (ball p r)) (a .0) (ap (λ o. refusing o (Ok (ball p r))) (a .1)))
 
 pub height-takes : (z : ℤ) (us : List ℤ) → Made 1 height-of z us → HeightWords z us × Unit {0}
 unfolding tabled

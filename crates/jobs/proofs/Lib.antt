@@ -3,7 +3,7 @@ pub mod ExactJobs
 pub mod ExactRuns
 pub mod ExactSections
 pub mod Exactness
-pub mod Flats
+pub mod Fitting
 pub mod Layouts
 pub mod RecordTurns
 pub mod WordTurns

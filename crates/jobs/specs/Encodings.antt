@@ -9,7 +9,6 @@ use Rattle.std.specs.declared.result.Result.{Result}
 use Rattle.std.specs.declared.result.Result.the-variants.{Ok, Err}
 use Rattle.std.specs.shelf.Lists.{All}
 use Rattle.zmap.specs.Faults.{grid-fault}
-use Rattle.cutters.specs.Making.{flat-fault}
 use Rattle.setups.specs.declared.clamp.Clamp.{Clamp}
 use Rattle.jobs.specs.declared.bad.Bad.{Bad}
 use Rattle.jobs.specs.declared.job.Job.{Job}
@@ -17,7 +16,7 @@ use Rattle.jobs.specs.declared.job.Move.{Move}
 use Rattle.jobs.specs.declared.job.Move.the-variants.{Pose}
 use Rattle.jobs.specs.Parsers.{number}
 use Rattle.setups.specs.Clamps.{clamp-fault}
-use Rattle.jobs.specs.Items.{Extent, Disc}
+use Rattle.jobs.specs.Items.{Extent, Turned, flat, cone, ball, turned-pitch, turned-fault}
 use Rattle.jobs.specs.Jobs.{Reading, told}
 
 -- the bytes bs are the words ws, four bytes each that have its value, and then the bytes rest
@@ -29,8 +28,10 @@ Spells (w ∷ ws) bs rest = (4 ≤ length bs) × (number bs ≡ w) × Spells ws 
 abbrev pub GridWords : Extent → List ℤ → Type 0
 GridWords g ws = ws ≡ pos (g .columns) ∷ pos (g .rows) ∷ pos (g .pitch) ∷ []
 
-abbrev pub CutterWords : Disc → List ℤ → Type 0
-CutterWords t ws = (a : ℤ) × (b : ℤ) × (ws ≡ pos 1 ∷ t .radius ∷ a ∷ b ∷ [])
+abbrev pub CutterWords : Turned → List ℤ → Type 0
+CutterWords (flat p r) ws = (a : ℤ) × (b : ℤ) × (ws ≡ pos 1 ∷ r ∷ a ∷ b ∷ [])
+CutterWords (cone p r t s) ws = ws ≡ pos 2 ∷ r ∷ t ∷ s ∷ []
+CutterWords (ball p r) ws = (a : ℤ) × (b : ℤ) × (ws ≡ pos 3 ∷ r ∷ a ∷ b ∷ [])
 
 abbrev pub HeightWords : ℤ → List ℤ → Type 0
 HeightWords z ws = ws ≡ z ∷ []
@@ -68,8 +69,8 @@ pub record Words (j : Reading) (ws : List ℤ) : Type 0 where
 pub record Allowed (j : Reading) : Type 0 where
   pub grid : grid-fault (pos (j .grid .columns)) (pos (j .grid .rows)) (pos (j .grid .pitch)) ≡ None
   pub small : j .grid .columns * j .grid .rows ≤ 4096
-  pub pitch : j .cutter .pitch ≡ j .grid .pitch
-  pub cutter : flat-fault (pos (j .cutter .pitch)) (j .cutter .radius) ≡ None
+  pub pitch : turned-pitch (j .cutter) ≡ j .grid .pitch
+  pub cutter : turned-fault (j .cutter) ≡ None
   pub heights : length (j .heights) ≡ j .grid .columns * j .grid .rows
   pub few : length (j .clamps) ≤ 16
   pub clamps : All (λ k. clamp-fault (j .grid .columns) (j .grid .rows) k ≡ None) (j .clamps)

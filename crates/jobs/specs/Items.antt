@@ -13,8 +13,9 @@ use Rattle.zmap.specs.Faults.{grid-fault}
 use Rattle.zmap.specs.declared.fault.Fault.{Fault}
 use Rattle.zmap.specs.declared.fault.Fault.the-variants as fault
 use Rattle.zmap.specs.declared.grid.Grid.{Grid}
-use Rattle.cutters.specs.Making.{flat-fault}
-use Rattle.cutters.specs.declared.flat.Flat.{Flat}
+use Rattle.cutters.specs.Making.{ball-fault, cone-fault, flat-fault}
+use Rattle.cutters.specs.declared.round.RoundTool.{RoundTool}
+use Rattle.cutters.specs.declared.round.RoundTool.the-variants.{Flat, Cone, Ball}
 use Rattle.setups.specs.Clamps.{clamp-fault}
 use Rattle.setups.specs.declared.clamp.Clamp.{Clamp}
 use Rattle.jobs.specs.declared.job.Move.{Move}
@@ -59,22 +60,49 @@ extent-of ws =
     refusing (grid-fault (nth ws 0) (nth ws 1) (nth ws 2))
     (cond (leb (natAbs (nth ws 0) * natAbs (nth ws 1)) 4096) (Ok (record { columns = natAbs (nth ws 0); rows = natAbs (nth ws 1); pitch = natAbs (nth ws 2) })) (Err fault.Count))
 
--- a flat cutter in plain numbers: the pitch that it is drawn for and the radius, in µm
-pub record Disc : Type 0 where
-  pub pitch : ℕ
-  pub radius : ℤ
+-- a round cutter in plain numbers: the pitch that it is drawn for, the radius, and for a cone the tip radius and the rise
+pub data Turned : Type 0 where
+  flat : ℕ → ℤ → Turned
+  cone : ℕ → ℤ → ℤ → ℤ → Turned
+  ball : ℕ → ℤ → Turned
 
--- the numbers of a flat cutter
-abbrev pub disc : Flat → Disc
-disc t = record { pitch = t .pitch .microns; radius = pos (t .radius) }
+-- the numbers of a round cutter
+abbrev pub turned : RoundTool → Turned
+turned (Flat t) = flat (t .pitch .microns) (pos (t .radius))
+turned (Cone t) = cone (t .pitch .microns) (pos (t .radius)) (pos (t .tip)) (pos (t .rise))
+turned (Ball t) = ball (t .pitch .microns) (pos (t .radius))
 
--- a flat cutter of such a pitch and radius
-unfoldable pub flat-of : ℕ → ℤ → Result Disc Fault
-flat-of pitch radius = refusing (flat-fault (pos pitch) radius) (Ok (record { pitch = pitch; radius = radius }))
+-- the pitch that a round cutter is drawn for
+abbrev pub turned-pitch : Turned → ℕ
+turned-pitch (flat p r) = p
+turned-pitch (cone p r t s) = p
+turned-pitch (ball p r) = p
 
--- kind and radius, and two words that are ignored
-abbrev pub disc-of : ℕ → List ℤ → Result Disc Fault
-disc-of pitch ws = cond (is-kind 1 (nth ws 0)) (flat-of pitch (nth ws 1)) (Err fault.Kind)
+-- the first refusal of a round cutter
+abbrev pub turned-fault : Turned → Option Fault
+turned-fault (flat p r) = flat-fault (pos p) r
+turned-fault (cone p r t s) = cone-fault (pos p) r t s
+turned-fault (ball p r) = ball-fault (pos p) r
+
+-- the round cutter, where nothing refuses it
+unfoldable pub fitted : Turned → Result Turned Fault
+fitted t = refusing (turned-fault t) (Ok t)
+
+-- the round cutter of a known kind, or an unknown kind
+abbrev pub known : Option Turned → Result Turned Fault
+known None = Err fault.Kind
+known (Some t) = fitted t
+
+-- kind, radius, tip radius and rise, of which a flat cutter and a ball ignore the last two
+abbrev pub turned-in : ℕ → List ℤ → Option Turned
+turned-in pitch ws =
+    cond (is-kind 1 (nth ws 0)) (Some (flat pitch (nth ws 1)))
+    (cond (is-kind 2 (nth ws 0)) (Some (cone pitch (nth ws 1) (nth ws 2) (nth ws 3)))
+    (cond (is-kind 3 (nth ws 0)) (Some (ball pitch (nth ws 1))) None))
+
+-- the round cutter of the words at the pitch
+abbrev pub turned-of : ℕ → List ℤ → Result Turned Fault
+turned-of pitch ws = known (turned-in pitch ws)
 
 -- a height, which is not checked
 abbrev pub height-of : List ℤ → Result ℤ Fault

@@ -14,20 +14,20 @@ use Rattle.jobs.specs.declared.bad.Bad.{Bad}
 use Rattle.jobs.specs.declared.job.Job.{Job}
 use Rattle.jobs.specs.declared.job.Move.{Move}
 use Rattle.jobs.specs.Parsers.{Reads, then}
-use Rattle.jobs.specs.Items.{Extent, extent, Disc, disc}
+use Rattle.jobs.specs.Items.{Extent, extent, Turned, turned}
 use Rattle.jobs.specs.Sections.{count, grid-section, cutter-section, heights-section, clamps-section, moves-section}
 
 -- what a job says, in plain numbers
 pub record Reading : Type 0 where
   pub grid : Extent
-  pub cutter : Disc
+  pub cutter : Turned
   pub heights : List ℤ
   pub clamps : List Clamp
   pub moves : List Move
 
 -- what the job says
 abbrev pub told : Job → Reading
-told j = record { grid = extent (j .grid); cutter = disc (j .cutter); heights = vec-items (j .heights); clamps = vec-items (j .clamps); moves = vec-items (j .moves) }
+told j = record { grid = extent (j .grid); cutter = turned (j .cutter); heights = vec-items (j .heights); clamps = vec-items (j .clamps); moves = vec-items (j .moves) }
 
 -- the seven sections in their order; facets and allowance have no records
 unfoldable pub sections : List ℕ → Reads Reading Bad

@@ -7,7 +7,7 @@ use Rattle.jobs.specs.declared.bad.Bad.{Bad}
 use Rattle.jobs.specs.declared.job.Move.{Move}
 use Rattle.jobs.specs.Parsers.{Reads, then}
 use Rattle.jobs.specs.Records.{one-record, placed, records}
-use Rattle.jobs.specs.Items.{count-of, Extent, extent-of, Disc, disc-of, height-of, clamp-of, move-of}
+use Rattle.jobs.specs.Items.{count-of, Extent, extent-of, Turned, turned-of, height-of, clamp-of, move-of}
 
 -- the number of records of a section, from low to high
 unfoldable pub count : ℕ → ℕ → ℕ → List ℕ → Reads ℕ Bad
@@ -18,8 +18,8 @@ unfoldable pub grid-section : List ℕ → Reads Extent Bad
 grid-section bs = then (count 1 1 1 bs) (λ n rest. placed 1 0 (one-record 3 extent-of rest))
 
 -- one cutter of the pitch
-unfoldable pub cutter-section : ℕ → List ℕ → Reads Disc Bad
-cutter-section pitch bs = then (count 2 1 1 bs) (λ n rest. placed 2 0 (one-record 4 (disc-of pitch) rest))
+unfoldable pub cutter-section : ℕ → List ℕ → Reads Turned Bad
+cutter-section pitch bs = then (count 2 1 1 bs) (λ n rest. placed 2 0 (one-record 4 (turned-of pitch) rest))
 
 -- a height for each sample
 unfoldable pub heights-section : ℕ → List ℕ → Reads (List ℤ) Bad

@@ -1,5 +1,5 @@
 // What a job holds.
-use cutters::Flat;
+use cutters::RoundTool;
 use setups::Clamp;
 use zmap::Grid;
 
@@ -14,7 +14,7 @@ pub enum Move {
 #[derive(Drop)]
 pub struct Job {
     pub grid: Grid,
-    pub cutter: Flat,
+    pub cutter: RoundTool,
     pub heights: Vec<i32>,
     pub clamps: Vec<Clamp>,
     pub moves: Vec<Move>,

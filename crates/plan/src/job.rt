@@ -5,7 +5,7 @@ ghost use Rattle.jobs.specs.Encodings.{Allowed};
 ghost use Rattle.jobs.specs.Jobs.{told};
 ghost use Rattle.setups.specs.Tables.{clamps-of};
 ghost use Rattle.plan.specs.Guards.{Fresh};
-use cutters::FlatCutter;
+use cutters::RoundToolCutter;
 use fields::Raster;
 use fields::RasterField;
 use jobs::Job;

@@ -1,6 +1,6 @@
 // The job of standard input, read and carried out as the program plan does.
 use crate::faults::show;
-use cutters::FlatCutter;
+use cutters::RoundToolCutter;
 use fields::Raster;
 use fields::RasterField;
 use jobs::Job;

@@ -2,7 +2,7 @@
 ghost use Rattle.cutters.specs.Flats.{flat-shape};
 use crate::Cutter;
 use crate::Flat;
-use crate::disc::in_disc;
+use crate::disc::square_at;
 use zmap::Offset;
 use zmap::Pitch;
 
@@ -21,10 +21,10 @@ pub impl Cutter for Flat as FlatCutter {
     }
 
     fn profile(&self, o: Offset) -> Option<u32> {
-        if in_disc(self.pitch, self.radius, o) {
-            return Some(0);
-        }
-        None
+        let Some(_) = square_at(self.pitch, self.radius, o) else {
+            return None;
+        };
+        Some(0)
     }
 
     fn widest_reach(&self) -> i32 {

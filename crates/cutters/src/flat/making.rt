@@ -5,6 +5,7 @@ ghost use Rattle.std.specs.Results.{Cases};
 ghost use Rattle.std.specs.declared.option.Option.the-variants.{Some, None};
 ghost use Rattle.cutters.specs.Making.{flat-fault};
 use crate::Flat;
+use crate::disc::radius_of;
 use zmap::Fault;
 use zmap::Pitch;
 
@@ -15,12 +16,7 @@ impl Flat {
         ensures holds { λ r. ⌜ Cases r (λ t. (pos (t .pitch .microns) ≡ pitch) × (pos (t .radius) ≡ radius)) (λ e. Unit {0}) ⌝ }
     {
         let pitch = Pitch::new(pitch)?;
-        if radius < 0 || radius > 15999 || radius >= 16 * pitch.microns as i32 {
-            return Err(Fault::Radius);
-        }
-        Ok(Flat {
-            pitch,
-            radius: radius as u32,
-        })
+        let radius = radius_of(pitch, radius)?;
+        Ok(Flat { pitch, radius })
     }
 }

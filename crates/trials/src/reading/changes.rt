@@ -1,7 +1,7 @@
 // Words of the small job that are changed.
 
 // Which word is changed, and into what.
-pub(crate) const ONE: [[i32; 2]; 79] = [
+pub(crate) const ONE: [[i32; 2]; 80] = [
     [0, 0],
     [0, 2],
     [0, -1],
@@ -21,6 +21,7 @@ pub(crate) const ONE: [[i32; 2]; 79] = [
     [5, 0],
     [5, 2],
     [5, 3],
+    [5, 4],
     [5, -1],
     [5, i32::MIN],
     [6, -1],
