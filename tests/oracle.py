@@ -6,6 +6,7 @@
 import functools
 import os
 import random
+import re
 import struct
 import subprocess
 import sys
@@ -15,6 +16,19 @@ LOWEST, HIGHEST = -2**31, 2**31 - 1
 RANK = {"clear": 0, "part": 1, "allowance": 2, "fixture": 3}
 # Every offset of the table: nearer ones first, then by dy, then by dx.
 RING = sorted(((dx, dy) for dx in range(-15, 16) for dy in range(-15, 16)), key=lambda o: (o[0] ** 2 + o[1] ** 2, o[1], o[0]))
+
+
+# The cases of a table in the sources of a crate: its numbers only, never an answer.
+def table(crate, file, name):
+    home = os.path.join(os.path.dirname(os.path.abspath(__file__)), "..", "crates", crate, "src", file)
+    with open(home) as source:
+        text = re.sub(r"//[^\n]*", "", source.read())
+    found = re.search(rf"const {name}: \[\[i32; (\d+)\]; (\d+)\] = \[(.*?)\];", text, re.S)
+    width, many = int(found[1]), int(found[2])
+    words = found[3].replace("i32::MIN", str(LOWEST)).replace("i32::MAX", str(HIGHEST))
+    numbers = [int(n) for n in re.findall(r"-?\d+", words)]
+    assert len(numbers) == width * many, (file, name)
+    return [numbers[i:i + width] for i in range(0, len(numbers), width)]
 
 
 # The refusals of plain numbers: a fault's number, or nothing.

@@ -4,24 +4,11 @@
 #   python3 tests/shapes.py           prints what shapes is to print
 #   python3 tests/shapes.py write     writes crates/shapes/stdout
 import os
-import re
 import sys
 
-from oracle import HIGHEST, LOWEST, cutter_fault, profile
+from oracle import cutter_fault, profile, table
 
 ROOT = os.path.join(os.path.dirname(os.path.abspath(__file__)), "..", "crates", "shapes")
-
-
-# The numbers of a table in the sources, never an answer.
-def table(file, name):
-    with open(os.path.join(ROOT, "src", file)) as source:
-        text = source.read()
-    found = re.search(rf"const {name}: \[\[i32; (\d+)\]; (\d+)\] = \[(.*?)\];", text, re.S)
-    width, many = int(found[1]), int(found[2])
-    words = found[3].replace("i32::MIN", str(LOWEST)).replace("i32::MAX", str(HIGHEST))
-    numbers = [int(n) for n in re.findall(r"-?\d+", words)]
-    assert len(numbers) == width * many, (file, name)
-    return [numbers[i:i + width] for i in range(0, len(numbers), width)]
 
 
 def rows(far, told):
@@ -31,7 +18,7 @@ def rows(far, told):
 
 
 def round_cutters():
-    for cutter in table("rounds.rt", "CUTTERS"):
+    for cutter in table("shapes", "rounds.rt", "CUTTERS"):
         yield "cutter " + " ".join(map(str, cutter))
         fault = cutter_fault(*cutter)
         if fault:
@@ -49,7 +36,7 @@ def measured_cutter():
 
     yield "measured, new"
     yield from rows(8, told)
-    for dx, dy, height in table("measuring.rt", "ENTRIES"):
+    for dx, dy, height in table("shapes", "measuring.rt", "ENTRIES"):
         answer = "taken"
         if not (-7 <= dx <= 7 and -7 <= dy <= 7):
             answer = 7

@@ -5,25 +5,12 @@
 #   python3 tests/trials.py write     writes crates/trials/stdin and crates/trials/stdout
 import os
 import random
-import re
 import sys
 
-from oracle import CEILING, FLOOR, HIGHEST, LOWEST, Bad, Guard, clamp_fault, grid_fault, is_height
-from oracle import lines, parse, pose, profile, random_job, round_fault, spell
+from oracle import CEILING, FLOOR, LOWEST, Bad, Guard, clamp_fault, grid_fault, is_height
+from oracle import lines, parse, pose, profile, random_job, round_fault, spell, table
 
 ROOT = os.path.join(os.path.dirname(os.path.abspath(__file__)), "..", "crates", "trials")
-
-
-# The cases of a table in the sources: its numbers only, never an answer.
-def table(file, name):
-    with open(os.path.join(ROOT, "src", file)) as source:
-        text = re.sub(r"//[^\n]*", "", source.read())
-    found = re.search(rf"const {name}: \[\[i32; (\d+)\]; (\d+)\] = \[(.*?)\];", text, re.S)
-    width, many = int(found[1]), int(found[2])
-    words = found[3].replace("i32::MIN", str(LOWEST)).replace("i32::MAX", str(HIGHEST))
-    numbers = [int(n) for n in re.findall(r"-?\d+", words)]
-    assert len(numbers) == width * many, (file, name)
-    return [numbers[i:i + width] for i in range(0, len(numbers), width)]
 
 
 def number(fault):
@@ -101,7 +88,7 @@ def single(height, tip):
 
 def turn(count, place=None):
     guard, block, text = Guard(5, 1, 100, [0, 0, 0, 100, 0], [(2, 0, 2, 0, 50)]), [CEILING] * 5, "nothing"
-    for p in table("turns.rt", "POSES")[:count]:
+    for p in table("trials", "turns.rt", "POSES")[:count]:
         text = "1 " + pose(guard, (1, 100, 100, 0, 0), block, *p)
     if place is None:
         return text
@@ -165,7 +152,7 @@ def answers():
         ("amounts", "reading/amounts.rt", "AMOUNTS", amounts),
     ]
     for name, file, cases, answer in topics:
-        for case in table(file, cases):
+        for case in table("trials", file, cases):
             yield name, case, answer(*case)
 
 
