@@ -1,5 +1,6 @@
 // The flat cutter behind the interface.
-ghost use Rattle.cutters.specs.Flats.{flat-shape};
+ghost use mathlib.Core.Path.{_≡_};
+ghost use Rattle.cutters.specs.Flats.{flat-shape, FlatDrawn};
 use crate::Cutter;
 use crate::Flat;
 use crate::disc::square_at;
@@ -20,7 +21,10 @@ pub impl Cutter for Flat as FlatCutter {
         self.pitch
     }
 
-    fn profile(&self, o: Offset) -> Option<u32> {
+    fn profile(&self, o: Offset) -> Option<u32>
+        ensures value { λ r. ⌜ r ≡ flat-shape (now (self .entry) .pitch .microns) (now (self .entry) .radius) o ⌝ }
+        ensures drawn { λ r. ⌜ FlatDrawn (now (self .entry) .pitch .microns) (now (self .entry) .radius) o r ⌝ }
+    {
         let Some(_) = square_at(self.pitch, self.radius, o) else {
             return None;
         };
