@@ -1,5 +1,5 @@
 -- What a cutter is: how far its underside stands above the tip, at each offset that it covers. Assumes nothing.
-use Rattle.std.specs.Prelude.{◌≡◌, ℕ, ◌≤◌, ℤ, pos, neg_ℤ, ◌≤ℤ◌, Some, None, Option}
+use Rattle.std.specs.Prelude.{◌≡◌, ℕ, ◌≤◌, pos, neg_ℤ, ◌≤ℤ◌, Some, Option}
 use Rattle.zmap.specs.Maps.{At}
 use Rattle.zmap.specs.declared.node.Node.{Node}
 use Rattle.zmap.specs.declared.node.Offset.{Offset}

@@ -1,4 +1,5 @@
 // The drawings: facets over small maps, and what single facets give over points.
+#![tactic(auto)]
 
 mod maps;
 mod points;

@@ -1,7 +1,5 @@
 -- Weights that balance over a point of the plan: the shoelace formula gives some, and all others are in proportion. Assumes nothing.
-use Rattle.std.proofs.Common.{◌≡◌, ℕ, ◌+◌, ◌-◌, ◌*◌, ◌<◌, ◌≤◌, sym, refl, ap, ◌∙◌, subst, inl, inr, arith}
-use Rattle.std.proofs.lemmas.Nat.{mul-le}
-use Rattle.std.proofs.lemmas.Bool.{cases_lt}
+use Rattle.std.proofs.Common.{◌≡◌, ℕ, ◌+◌, ◌*◌, ◌<◌, sym, ◌∙◌, arith}
 use Rattle.facets.specs.declared.corner.Point.{Point}
 use Rattle.facets.specs.Shoelaces.{half}
 

@@ -1,7 +1,6 @@
 -- How large the areas and the heights become. Assumes nothing.
-use Rattle.std.proofs.Common.{ℕ, ◌+◌, ◌*◌, ◌^◌, ◌<◌, ◌≤◌, arith}
+use Rattle.std.proofs.Common.{ℕ, ◌+◌, ◌*◌, ◌≤◌, arith}
 use Rattle.std.proofs.lemmas.Nat.{mul-le}
-use Rattle.facets.specs.declared.corner.Corner.{Corner}
 use Rattle.facets.specs.declared.corner.Point.{Point}
 use Rattle.facets.specs.Shoelaces.{Inside, Wordy, half}
 

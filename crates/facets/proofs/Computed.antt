@@ -1,5 +1,5 @@
 -- What the code of the areas and of the mean computes. Assumes nothing.
-use Rattle.std.proofs.Common.{◌≡◌, ℕ, ◌+◌, ◌-◌, ◌*◌, ◌<◌, ◌≤◌, eqb, ltb, leb, ◌⊎◌, IfSome, Some, None, Option, sym, refl, ap, ◌∙◌, inl, inr, ⊎_elim, arith}
+use Rattle.std.proofs.Common.{◌≡◌, ℕ, ◌+◌, ◌-◌, ◌*◌, ◌<◌, ◌≤◌, eqb, ltb, ◌⊎◌, IfSome, Some, None, Option, sym, ap, ◌∙◌, ⊎_elim, arith}
 use Rattle.std.proofs.lemmas.Bool.{cases_lt, cond-true, cond-false, eq-eqb, lt-leb, lt-ltb, le-ltb, le-leb, ne_eqb, or_from, or_left, or_right}
 use Rattle.std.specs.Option.{SomeIff}
 use Rattle.facets.specs.declared.corner.Point.{Point}

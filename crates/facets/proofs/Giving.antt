@@ -1,21 +1,19 @@
 -- What a facet gives by the computation is what the geometry says. Assumes nothing.
-use Rattle.std.proofs.Common.{◌≡◌, ℕ, suc, ◌+◌, ◌*◌, ◌≤◌, ◌⊎◌, ℤ, pos, negsuc, ◌+ℤ◌, ◌*ℤ◌, ◌≤ℤ◌, Some, None, Option, sym, refl, ap, ◌∙◌, subst, inl, inr, ⊎_elim, arith}
+use Rattle.std.proofs.Common.{◌≡◌, ℕ, ◌+◌, ◌*◌, ◌≤◌, ℤ, pos, negsuc, ◌+ℤ◌, ◌*ℤ◌, ◌≤ℤ◌, Some, None, Option, sym, refl, ap, ◌∙◌, subst, inl, inr, ⊎_elim, arith}
 use Rattle.std.proofs.lemmas.Int.{ints}
 use Rattle.std.specs.Option.{option_map}
-use Rattle.zmap.specs.Limits.{ceiling, floor}
 use Rattle.facets.specs.declared.corner.Corner.{Corner}
 use Rattle.facets.specs.declared.corner.Point.{Point}
 use Rattle.facets.specs.declared.facet.Facet.{Facet}
-use Rattle.facets.specs.declared.facet.Vertex.{Vertex}
 use Rattle.facets.specs.Drawn.{from_floor, given, facet_at}
-use Rattle.facets.specs.Geometry.{Balances, Covers, NotBelow, Tops, Upright, Roofs, Gives, Sole, weighed}
+use Rattle.facets.specs.Geometry.{Balances, Covers, NotBelow, Tops, Upright, Gives, Sole, weighed}
 use Rattle.facets.specs.Shoelaces.{half, height_at}
 use Rattle.facets.specs.Vertices.{Placed, Sound, corner_of}
-use Rattle.facets.proofs.Heights.{Topped, Spanned, height_some, height_none}
+use Rattle.facets.proofs.Heights.{Spanned, height_some, height_none}
 use Rattle.facets.proofs.Placing.{corner_some, corner_none}
 use Rattle.facets.proofs.Balance.{Poised}
-use Rattle.facets.proofs.Signs.{Told, told, weighed_from, least_from, over_from, never_under, product_is}
-use Rattle.facets.proofs.Weights.{Over, Lies}
+use Rattle.facets.proofs.Signs.{Told, weighed_from, least_from, over_from, never_under, product_is}
+use Rattle.facets.proofs.Weights.{Lies}
 
 -- a facet f whose corners are a, b and c, over the point (x, y)
 module _ (f : Facet) (a b c : Corner) (x y : ℕ) (ta : Told f.a a) (tb : Told f.b b) (tc : Told f.c c) where

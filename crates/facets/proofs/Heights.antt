@@ -1,6 +1,6 @@
 -- The computed height over a point is that of the plane, and comes exactly where the plan has an area and covers the point. Assumes nothing.
-use Rattle.std.proofs.Common.{◌≡◌, ℕ, ◌+◌, ◌-◌, ◌*◌, ◌<◌, ◌≤◌, Bool, true, false, cond, ◌||◌, eqb, ltb, leb, ◌⊎◌, Some, None, Option, sym, refl, ap, ◌∙◌, subst, inl, inr, ⊎_elim, arith}
-use Rattle.std.proofs.lemmas.Bool.{cases_Bool, cases_lt, cases_order, cond-true, cond-false, eqb-false, ltb-false, leb-true, le-leb, le-ltb, ne_eqb, or_parts, or_from}
+use Rattle.std.proofs.Common.{◌≡◌, ℕ, ◌+◌, ◌-◌, ◌*◌, ◌<◌, ◌≤◌, Bool, true, false, cond, eqb, ltb, leb, ◌⊎◌, Some, None, Option, sym, refl, ap, ◌∙◌, inl, inr, ⊎_elim, arith}
+use Rattle.std.proofs.lemmas.Bool.{cases_lt, cases_order, cond-true, cond-false, eqb-false, ltb-false, leb-true, le-leb, le-ltb, ne_eqb, or_parts, or_from}
 use Rattle.facets.specs.declared.corner.Corner.{Corner}
 use Rattle.facets.specs.declared.corner.Point.{Point}
 use Rattle.facets.specs.Shoelaces.{Low, half, swept, rounded_up, mean, then, else, plane_at, height_at}

@@ -1,5 +1,5 @@
 -- Taking a survey, sample by sample. Assumes nothing.
-use Rattle.std.proofs.Common.{◌≡◌, ℕ, ◌+◌, ◌<◌, ◌≤◌, true, ltb, List, length, get_or, set, sym, ap, ◌∙◌, subst, ⊎_elim, arith}
+use Rattle.std.proofs.Common.{◌≡◌, ℕ, ◌+◌, ◌<◌, ◌≤◌, ltb, List, length, get_or, set, sym, ap, ◌∙◌, subst, ⊎_elim, arith}
 use Rattle.std.proofs.lemmas.List.{get_or-set_same, get_or-set_other, length-set}
 use Rattle.std.proofs.lemmas.Bool.{and_from, cases_eq, cond-true, lt-ltb}
 use Rattle.zmap.proofs.HeightTest.{within_told}
@@ -9,7 +9,7 @@ use Rattle.zmap.specs.Maps.{On, place, size}
 use Rattle.zmap.specs.declared.grid.Grid.{Grid}
 use Rattle.zmap.specs.declared.node.Node.{Node}
 use Rattle.zmap.specs.declared.sample.Sample.{Sample}
-use Rattle.fields.specs.Surveys.{Surveyed, ToldAt, entry, survey_at, survey_sample}
+use Rattle.fields.specs.Surveys.{Surveyed, ToldAt, entry, survey_sample}
 
 -- the first i places of ms hold the samples of their nodes
 pub record Sofar (g : Grid) (surface : Node → Sample) (i : ℕ) (ms : List Sample) : Type 0 where

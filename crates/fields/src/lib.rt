@@ -1,4 +1,6 @@
 // The fields at the bottom of a pile: heights in row order, facets, and the survey of any field.
+#![tactic(auto)]
+
 mod drawing;
 mod raster;
 mod survey;

@@ -1,4 +1,6 @@
 // Jobs: what a job holds, the memory for the largest one, and the reader of its bytes.
+#![tactic(auto)]
+
 mod bad;
 mod clamps;
 mod count;

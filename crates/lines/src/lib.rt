@@ -1,4 +1,6 @@
 // The text of the lines that the program prints.
+#![tactic(auto)]
+
 mod line;
 mod moves;
 mod text;

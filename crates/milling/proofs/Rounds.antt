@@ -1,14 +1,14 @@
 -- Loops over the table of offsets: what holds at each offset so far, and so, in the end, of all that the cutter covers. Assumes nothing.
-use Rattle.std.proofs.Common.{◌≡◌, ℕ, ◌+◌, ◌<◌, ◌≤◌, List, length, get_or, ℤ, pos, ◌+ℤ◌, neg_ℤ, Some, sym, subst, ⊎_elim, arith}
+use Rattle.std.proofs.Common.{◌≡◌, ℕ, ◌+◌, ◌<◌, ◌≤◌, List, length, get_or, ℤ, pos, ◌+ℤ◌, Some, sym, subst, ⊎_elim, arith}
 use Rattle.std.proofs.lemmas.List.{get_or_default}
 use Rattle.std.proofs.lemmas.Int.{ints}
 use Rattle.std.proofs.lemmas.Bool.{cases_order}
-use Rattle.zmap.specs.Maps.{On, At}
+use Rattle.zmap.specs.Maps.{At}
 use Rattle.zmap.specs.declared.grid.Grid.{Grid}
 use Rattle.zmap.specs.declared.node.Node.{Node}
 use Rattle.zmap.specs.declared.node.Offset.{Offset}
 use Rattle.cutters.specs.Order.{before_irrefl, before_trans}
-use Rattle.cutters.specs.Profiles.{Covers, Lawful, Near, Profile}
+use Rattle.cutters.specs.Profiles.{Lawful, Near, Profile}
 use Rattle.cutters.specs.Rings.{Before, Ring}
 use Rattle.milling.specs.Cuts.{Under}
 use Rattle.milling.specs.declared.poses.Pose.{Pose}

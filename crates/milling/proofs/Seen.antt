@@ -12,10 +12,10 @@ use Rattle.zmap.specs.declared.node.Node.{Node}
 use Rattle.zmap.specs.declared.node.Offset.{Offset}
 use Rattle.zmap.specs.declared.sample.Sample.{Sample}
 use Rattle.cutters.specs.Profiles.{Lawful, Near, Profile}
-use Rattle.cutters.specs.Rings.{Before, Ring}
+use Rattle.cutters.specs.Rings.{Ring}
 use Rattle.milling.specs.Cuts.{Contacts, First, Only, Surface, Under}
 use Rattle.milling.specs.declared.poses.Pose.{Pose}
-use Rattle.milling.specs.Scans.{Here, InvadedAt, MetAt, Stood, is_past}
+use Rattle.milling.specs.Scans.{InvadedAt, MetAt, Stood, is_past}
 use Rattle.milling.proofs.Rounds.{Each, each_all, each_before, each_more, each_none, each_weaker, here_stood, here_weaker}
 
 pub past_far : (o : Offset) (k : ℕ) → true ≡ is_past o (pos k) → Near k o → ⊥

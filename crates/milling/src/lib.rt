@@ -1,4 +1,6 @@
 // Cutting a block: new blocks and poses, against a locked set-up and with any cutter.
+#![tactic(auto)]
+
 mod carving;
 mod covering;
 mod poses;

@@ -1,4 +1,6 @@
 // The program: a job from standard input, cut, and a line for each move.
+#![tactic(auto)]
+
 mod job;
 
 use std::io::Read;

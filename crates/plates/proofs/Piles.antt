@@ -1,5 +1,5 @@
 -- The worked pile, from what its calls answer. Assumes nothing.
-use Rattle.std.proofs.Common.{◌≡◌, ℕ, ◌<◌, List, [], ◌∷◌, length, pos, Some, None, Option, sym, refl, ap, ◌∙◌, arith, MatchOption}
+use Rattle.std.proofs.Common.{◌≡◌, ℕ, ◌<◌, List, [], ◌∷◌, length, pos, Some, None, Option, ap, ◌∙◌, arith, MatchOption}
 use Rattle.std.proofs.lemmas.Int.{ints}
 use Rattle.fields.specs.Rasters.{raster_height, raster_sample}
 use Rattle.setups.proofs.Entries.{adding_none}

@@ -1,4 +1,6 @@
 // The worked examples: profiles of a ball and of a cone by the cutters themselves, facets, and a pile of layers.
+#![tactic(auto)]
+
 ghost use Rattle.std.specs.Prelude.{◌≡◌};
 ghost use Rattle.plates.specs.Plates.{Plates, worked};
 

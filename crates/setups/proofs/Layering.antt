@@ -1,10 +1,9 @@
 -- The sample that a layer tells, by the test of its height. Assumes nothing.
-use Rattle.std.proofs.Common.{◌≡◌, true, false, ℤ, sym, refl, ap, ◌∙◌, arith}
+use Rattle.std.proofs.Common.{◌≡◌, true, false, ℤ, sym, refl, arith}
 use Rattle.std.proofs.lemmas.Int.{ints}
 use Rattle.std.proofs.lemmas.Bool.{both_ways, cond_both, cond-true, cond-false}
 use Rattle.zmap.specs.declared.class.Class.{Class}
 use Rattle.zmap.specs.declared.sample.Sample.{Sample}
-use Rattle.setups.specs.LayerHeight.{same_told}
 use Rattle.setups.specs.Layers.{Classed, layered}
 use Rattle.setups.specs.Surfaces.{same_height}
 

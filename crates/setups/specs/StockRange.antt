@@ -1,7 +1,6 @@
 -- Under a stock every sample stays in range. Assumes nothing.
-use Rattle.std.specs.Prelude.{◌≡◌, ℕ, ℤ, pos, ◌+ℤ◌}
+use Rattle.std.specs.Prelude.{ℕ, ℤ}
 use Rattle.std.proofs.Common.{sym, subst, arith}
-use Rattle.std.specs.Int.Signed.{lt_z}
 use Rattle.std.proofs.lemmas.Int.{ints, clamps}
 use Rattle.zmap.specs.Limits.{Height}
 use Rattle.zmap.specs.declared.class.Class.TheVariants.{Allowance}

@@ -1,8 +1,7 @@
 -- Under clamps whose heights are in range, so is every sample. Assumes nothing.
-use Rattle.std.specs.Prelude.{◌≡◌, ℕ, suc, ◌<◌, cond, List, [], ◌∷◌, length, take, ℤ, int_lt}
+use Rattle.std.specs.Prelude.{ℕ, suc, ◌<◌, List, [], ◌∷◌, length, take, ℤ, int_lt}
 use Rattle.std.proofs.Common.{suc-le-suc, arith}
 use Rattle.std.proofs.lemmas.List.{length-take, get_or-take}
-use Rattle.std.proofs.lemmas.Int.{ints, clamps}
 use Rattle.std.proofs.lemmas.Bool.{cond_both}
 use Rattle.std.specs.Int.{int_max}
 use Rattle.zmap.specs.Limits.{Height}

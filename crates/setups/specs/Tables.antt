@@ -1,5 +1,5 @@
 -- The clamps of a table, and how high they stand over a sample. Assumes nothing.
-use Rattle.std.specs.Prelude.{◌≡◌, ℕ, ◌<◌, Bool, true, cond, ◌&&◌, ◌⊎◌, List, length, take, ℤ, pos, ◌≤ℤ◌, fold, ◌≢◌, int_le, slice_index_or}
+use Rattle.std.specs.Prelude.{◌≡◌, ℕ, Bool, true, cond, ◌&&◌, ◌⊎◌, List, length, take, ℤ, pos, ◌≤ℤ◌, fold, ◌≢◌, int_le, slice_index_or}
 use Rattle.std.specs.Int.{int_max}
 use Rattle.std.specs.List.{ContainsAt as Has}
 use Rattle.zmap.specs.declared.node.Node.{Node}

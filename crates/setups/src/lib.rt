@@ -1,4 +1,6 @@
 // Layers over any field: the allowance, and the set-up with its clamps, first open, then locked.
+#![tactic(auto)]
+
 mod allowance;
 mod clamp;
 mod layer;

@@ -1,4 +1,5 @@
 // The program: the profiles of many cutters, offset by offset, and of a measured one as its entries are written.
+#![tactic(auto)]
 
 mod measuring;
 mod rounds;

@@ -1,4 +1,6 @@
 // The trials: every limit from both sides, and one stored job from standard input, each with its answer.
+#![tactic(auto)]
+
 mod answer;
 mod clamps;
 mod faults;

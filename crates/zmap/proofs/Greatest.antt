@@ -1,7 +1,6 @@
 -- What `greater` answers at heights. Assumes nothing.
-use Rattle.std.proofs.Common.{◌≡◌, cond, ℤ, ◌≤ℤ◌, ◌<ℤ◌, Ordering, Less, Equal, Greater, ◌∙◌, subst, arith}
-use Rattle.std.proofs.lemmas.Int.{ints, by_lt_z}
-use Rattle.std.specs.Cmp.{IsTotalOrder, int_cmp_total}
+use Rattle.std.proofs.Common.{◌≡◌, cond, ℤ, ◌<ℤ◌, Ordering, Less, Equal, Greater, ◌∙◌, arith}
+use Rattle.std.proofs.lemmas.Int.{ints}
 use Rattle.std.specs.Int.{int_max}
 use Rattle.std.specs.Ordering.{is_lt, MatchOrdering, int_cmp}
 
@@ -15,10 +14,7 @@ picked a b Equal h = grind (arith, ints)
 picked a b Greater h = grind (arith, ints)
 
 ranked : (a b : ℤ) → Ranks a b (int_cmp a b)
-ranked a b =
-    by_lt_z a b (λ l. subst (Ranks a b) (int_cmp_total.says a b Less l) l)
-    (λ l. by_lt_z b a (λ m. subst (Ranks a b) (int_cmp_total.says a b Greater m) m)
-    (λ m. let e : a ≡ b = omega (arith, ints) in subst (Ranks a b) (int_cmp_total.says a b Equal e) e))
+ranked a b = grind (arith, ints)
 
-pub greater_max : (a b r : ℤ) → ((o : IsTotalOrder Ranks) → r ≡ cond (is_lt (Ranks a b)) b a) → r ≡ int_max a b
-greater_max a b r h = h int_cmp_total ∙ picked a b (int_cmp a b) (ranked a b)
+pub greater_max : (a b r : ℤ) → r ≡ cond (is_lt (int_cmp a b)) b a → r ≡ int_max a b
+greater_max a b r h = h ∙ picked a b (int_cmp a b) (ranked a b)

@@ -1,5 +1,5 @@
 -- The members of a list with one more in front. Assumes nothing.
-use Rattle.std.proofs.Common.{◌≡◌, ℕ, zero, suc, ◌⊎◌, List, [], ◌∷◌, refl, inl, inr, suc-le-suc, le_of_suc-le-suc, not-suc-le-zero, arith}
+use Rattle.std.proofs.Common.{◌≡◌, zero, suc, ◌⊎◌, List, [], ◌∷◌, refl, inl, inr, suc-le-suc, le_of_suc-le-suc, not-suc-le-zero, arith}
 use Rattle.std.specs.List.{ContainsAt as Has}
 
 module _ {X : Type 0} where

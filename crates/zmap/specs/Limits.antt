@@ -1,5 +1,5 @@
 -- The ranges of numbers that the rules fix, as facts and as tests. Assumes nothing.
-use Rattle.std.specs.Prelude.{◌≡◌, ℕ, ◌≤◌, Bool, ◌&&◌, ℤ, pos, negsuc, ◌≤ℤ◌, int_le}
+use Rattle.std.specs.Prelude.{ℕ, ◌≤◌, Bool, ◌&&◌, ℤ, pos, negsuc, ◌≤ℤ◌, int_le}
 
 -- x is a natural number from low to high
 abbrev pub Within : ℕ → ℕ → ℕ → Type 0

@@ -1,4 +1,6 @@
 // Heights on a grid: pitch, grid, nodes and offsets, classes and contacts, faults, and the interface of fields.
+#![tactic(auto)]
+
 mod class;
 mod fault;
 mod field;

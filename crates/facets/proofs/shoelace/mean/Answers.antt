@@ -14,17 +14,17 @@ returns-then-n-eq0 c =
       bound = tt;
     }
 
-pub overflow-add-n : goal.overflow-add-n
-overflow-add-n c =
+pub overflow_add-n : goal.overflow_add-n
+overflow_add-n c =
     omega (arith, c.requires.whole, total_low _ _ _ _ _ _ c.if-n-v.false c.requires.low.0 c.requires.low.1.0 c.requires.low.1.1)
 
-pub overflow-add-n-2 : goal.overflow-add-n-2
-overflow-add-n-2 c =
+pub overflow_add-n-2 : goal.overflow_add-n-2
+overflow_add-n-2 c =
     omega (arith, c.requires.whole, total_low _ _ _ _ _ _ c.if-n-v.false c.requires.low.0 c.requires.low.1.0 c.requires.low.1.1)
 
 pub returns : goal.returns
 returns c =
     record {
-      value = mean_told _ _ _ _ _ _ _ c.if-n-eq0.false c.if-n-v.false c.div-ceil.ensures;
-      bound = mean_low _ _ _ _ _ _ _ (omega arith) c.if-n-v.false c.requires.low.0 c.requires.low.1.0 c.requires.low.1.1 c.div-ceil.ensures;
+      value = mean_told _ _ _ _ _ _ _ c.if-n-eq0.false c.if-n-v.false c.div_ceil.ensures;
+      bound = mean_low _ _ _ _ _ _ _ (omega arith) c.if-n-v.false c.requires.low.0 c.requires.low.1.0 c.requires.low.1.1 c.div_ceil.ensures;
     }

@@ -4,17 +4,17 @@ use Rattle.facets.specs.Shoelaces.{plane_at}
 use Rattle.facets.proofs.Heights.{swept_whole}
 use Rattle.facets.proofs.shoelace.plane.Goals as goal
 
-pub returns-in-default : goal.returns-in-default
+pub returns-in_default : goal.returns-in_default
 unfolding plane_at
-returns-in-default c = search rules
+returns-in_default c = search rules
 
-pub returns-in-default-swept : goal.returns-in-default-swept
+pub returns-in_default-swept : goal.returns-in_default-swept
 unfolding plane_at
-returns-in-default-swept c = search rules
+returns-in_default-swept c = search rules
 
-pub returns-in-default-swept-2 : goal.returns-in-default-swept-2
+pub returns-in_default-swept-2 : goal.returns-in_default-swept-2
 unfolding plane_at
-returns-in-default-swept-2 c = search rules
+returns-in_default-swept-2 c = search rules
 
 pub mean-requires : goal.mean-requires
 mean-requires c =

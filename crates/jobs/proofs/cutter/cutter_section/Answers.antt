@@ -3,9 +3,9 @@ use Rattle.std.proofs.Common.{rules}
 use Rattle.jobs.specs.Sections.{cutter_section}
 use Rattle.jobs.proofs.cutter.cutter_section.Goals as goal
 
-pub returns-in-err-count : goal.returns-in-err-count
+pub returns-in_err-count : goal.returns-in_err-count
 unfolding cutter_section
-returns-in-err-count c = search rules
+returns-in_err-count c = search rules
 
 pub returns : goal.returns
 unfolding cutter_section

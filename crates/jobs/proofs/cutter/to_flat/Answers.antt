@@ -5,15 +5,15 @@ use Rattle.std.proofs.lemmas.Int.{to_z-of_z}
 use Rattle.jobs.proofs.Fitting.{made, refused, round_at, same_flat}
 use Rattle.jobs.proofs.cutter.to_flat.Goals as goal
 
-pub returns-in-err-cutter : goal.returns-in-err-cutter
-returns-in-err-cutter c =
+pub returns-in_err-cutter : goal.returns-in_err-cutter
+returns-in_err-cutter c =
     let fp : SFits w32 c.signed.result = search rules in
-    let p = err_from_is_err_and c.from-residual.result c.from-residual.ensures.1 in
-    rw (p.1, p.2) (refused _ _ (round_at _ _ _ _ _ (to_z-of_z w32 _ fp ∙ c.signed.ensures) (to_z-of_z w32 _ c.ranges.radius) c.in-err-cutter.ensures.accepts))
+    let p = err_from_is_err_and c.from_residual.result c.from_residual.ensures.1 in
+    rw (p.1, p.2) (refused _ _ (round_at _ _ _ _ _ (to_z-of_z w32 _ fp ∙ c.signed.ensures) (to_z-of_z w32 _ c.ranges.radius) c.in_err-cutter.ensures.accepts))
 
 pub returns : goal.returns
 returns c =
     let fp : SFits w32 c.signed.result = search rules in
     let pitch = to_z-of_z w32 _ fp ∙ c.signed.ensures in
-    let was = c.in-ok-cutter.ensures in
+    let was = c.in_ok-cutter.ensures in
     made _ _ (round_at _ _ _ _ _ pitch (to_z-of_z w32 _ c.ranges.radius) was.accepts) (same_flat _ _ _ _ (was.holds.0 ∙ pitch) (was.holds.1 ∙ to_z-of_z w32 _ c.ranges.radius))

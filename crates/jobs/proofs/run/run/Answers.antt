@@ -6,8 +6,8 @@ use Rattle.jobs.proofs.run.run.Goals as goal
 pub loop-at-init : goal.loop-at-init
 loop-at-init g c = (start _ _ _ _ _ _ _ c.requires.empty c.args.into.ok.0, refl)
 
-pub push-reserved-requires : goal.push-reserved-requires
-push-reserved-requires g c =
+pub push_reserved-requires : goal.push_reserved-requires
+push_reserved-requires g c =
     rw c.loop-at.invariant.1
     (room _ _ _ _ _ _ _ _ _ c.loop-at.invariant.0 _ _ c.loop-at-test.true c.requires.room c.in-Ok.ensures.takes)
 
@@ -18,7 +18,7 @@ returns-in-Err g c =
 pub loop-at-preserved : goal.loop-at-preserved
 loop-at-preserved g c =
     let read = c.in-Ok.ensures in
-    let pushed = c.push-reserved.ensures in (
+    let pushed = c.push_reserved.ensures in (
       one_more _ _ _ _ _ _ _ _ _ c.loop-at.invariant.0 _ _ _ _ c.loop-at-test.true read.gives read.takes pushed.items pushed.len,
       pushed.capacity ∙ c.loop-at.invariant.1,
     )

@@ -7,30 +7,30 @@ pub returns : goal.returns
 unfolding sections
 returns c = search rules
 
-pub returns-in-err-grid : goal.returns-in-err-grid
+pub returns-in_err-grid : goal.returns-in_err-grid
 unfolding sections
-returns-in-err-grid c = search rules
+returns-in_err-grid c = search rules
 
-pub returns-in-err-cutter : goal.returns-in-err-cutter
+pub returns-in_err-cutter : goal.returns-in_err-cutter
 unfolding sections
-returns-in-err-cutter c = search rules
+returns-in_err-cutter c = search rules
 
-pub returns-in-err-heights : goal.returns-in-err-heights
+pub returns-in_err-heights : goal.returns-in_err-heights
 unfolding sections
-returns-in-err-heights c = search rules
+returns-in_err-heights c = search rules
 
-pub returns-in-err-count : goal.returns-in-err-count
+pub returns-in_err-count : goal.returns-in_err-count
 unfolding sections
-returns-in-err-count c = search rules
+returns-in_err-count c = search rules
 
-pub returns-in-err-count-2 : goal.returns-in-err-count-2
+pub returns-in_err-count-2 : goal.returns-in_err-count-2
 unfolding sections
-returns-in-err-count-2 c = search rules
+returns-in_err-count-2 c = search rules
 
-pub returns-in-err-clamps : goal.returns-in-err-clamps
+pub returns-in_err-clamps : goal.returns-in_err-clamps
 unfolding sections
-returns-in-err-clamps c = search rules
+returns-in_err-clamps c = search rules
 
-pub returns-in-err-moves : goal.returns-in-err-moves
+pub returns-in_err-moves : goal.returns-in_err-moves
 unfolding sections
-returns-in-err-moves c = search rules
+returns-in_err-moves c = search rules

@@ -1,10 +1,10 @@
 -- Each turn sees one offset more.
-use Rattle.std.proofs.Common.{◌≡◌, ◌+◌, ◌<◌, sym, ap, ◌∙◌, subst, arith, w32, SFits, rules}
+use Rattle.std.proofs.Common.{◌+◌, ◌<◌, sym, ap, ◌∙◌, subst, w32, SFits, rules}
 use Rattle.std.proofs.lemmas.Int.{to_z-of_z}
 use Rattle.milling.specs.declared.carving.Tally.{Tally}
 use Rattle.milling.proofs.Cutting.{Sofar, done, one_more, one_more_bare, start}
 use Rattle.milling.proofs.carving.carve.Goals as goal
-use Rattle.milling.proofs.carving.carve.Goals.{in-Some, in-default}
+use Rattle.milling.proofs.carving.carve.Goals.{in-Some, in_default}
 
 pub loop-i-init : goal.loop-i-init
 loop-i-init g c = start _ _ _
@@ -27,8 +27,8 @@ loop-i-preserved g c =
           w.in-Some.ensures w.underside.ensures fell small (w.block-is ∙ made)
           (ap (λ (t : Tally). t.samples) w.tally-is ∙ w.counted-tally.ensures.samples)
           (ap (λ (t : Tally). t.loss) w.tally-is ∙ w.counted-tally.ensures.loss)
-      | in-default w ↦
-          let base = one_more_bare c.args.p os b c.loop-i.block i _ c.loop-i.tally.samples c.loop-i.tally.loss c.loop-i-test.true c.loop-i.invariant w.in-default.ensures in
+      | in_default w ↦
+          let base = one_more_bare c.args.p os b c.loop-i.block i _ c.loop-i.tally.samples c.loop-i.tally.loss c.loop-i-test.true c.loop-i.invariant w.in_default.ensures in
           subst (λ x. Sofar G P c.args.p os b x (i + 1) c.match-covered.tally.samples c.match-covered.tally.loss) (sym w.block-is)
           (subst (λ (t : Tally). Sofar G P c.args.p os b c.loop-i.block (i + 1) t.samples t.loss) (sym w.tally-is) base)
     ]

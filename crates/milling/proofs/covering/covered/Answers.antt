@@ -8,8 +8,8 @@ use Rattle.milling.proofs.covering.covered.Goals as goal
 pub returns-then-past : goal.returns-then-past
 returns-then-past g c = λ s h on at e.
     let law = g.met.C.Cutter.lawful c.args.cutter.now in
-    let f : SFits w32 c.widest-reach.result = search rules in
-    past_far c.args.o _ (c.if-past.ensures ∙ ap (is_past c.args.o) (to_z-of_z w32 _ f ∙ c.widest-reach.ensures)) (law.reaches c.args.o h e)
+    let f : SFits w32 c.widest_reach.result = search rules in
+    past_far c.args.o _ (c.if-past.ensures ∙ ap (is_past c.args.o) (to_z-of_z w32 _ f ∙ c.widest_reach.ensures)) (law.reaches c.args.o h e)
 
 pub returns : goal.returns
 returns g c =

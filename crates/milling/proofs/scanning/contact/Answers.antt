@@ -9,7 +9,7 @@ pub loop-o-init : goal.loop-o-init
 loop-o-init g c = met_none _ _
 
 pub loop-o-preserved : goal.loop-o-preserved
-loop-o-preserved g c = met_more _ _ _ _ _ _ _ c.loop-o-test.true c.loop-o.invariant c.met-at.ensures (greater_contact _ _ _ c.greater-contact.ensures)
+loop-o-preserved g c = met_more _ _ _ _ _ _ _ c.loop-o-test.true c.loop-o.invariant c.met_at.ensures (greater_contact _ _ _ c.greater-contact.ensures)
 
 pub returns : goal.returns
 returns g c =

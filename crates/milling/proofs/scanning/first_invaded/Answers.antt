@@ -1,13 +1,12 @@
 -- Each turn sees one offset more; the first invaded sample ends the scan.
-use Rattle.std.proofs.Common.{◌≡◌, ◌≤◌, ◌≤ℤ◌, sym, refl, subst, arith}
-use Rattle.cutters.specs.Rings.{Ring}
+use Rattle.std.proofs.Common.{◌≤ℤ◌, subst}
 use Rattle.milling.specs.Cuts.{Clears, First}
-use Rattle.milling.proofs.Rounds.{Each, each_more, each_all}
+use Rattle.milling.proofs.Rounds.{each_more, each_all}
 use Rattle.milling.proofs.Seen.{first_found}
 use Rattle.milling.proofs.scanning.first_invaded.Goals as goal
 
 pub scan-preserved : goal.scan-preserved
-scan-preserved g c = (each_more _ _ _ _ c.scan-test.true c.scan.invariant.0 c.in-default.ensures, c.scan.invariant.1)
+scan-preserved g c = (each_more _ _ _ _ c.scan-test.true c.scan.invariant.0 c.in_default.ensures, c.scan.invariant.1)
 
 pub returns-in-Some : goal.returns-in-Some
 returns-in-Some g c =

@@ -5,8 +5,8 @@ use Rattle.milling.proofs.Rounds.{here_bare, here_stood}
 use Rattle.milling.proofs.Seen.{not_below}
 use Rattle.milling.proofs.scanning.invaded_at.Goals as goal
 
-pub returns-in-default : goal.returns-in-default
-returns-in-default g c = here_bare _ c.in-default.ensures
+pub returns-in_default : goal.returns-in_default
+returns-in_default g c = here_bare _ c.in_default.ensures
 
 pub returns : goal.returns
 returns g c =

@@ -5,8 +5,8 @@ use Rattle.milling.proofs.Rounds.{here_bare}
 use Rattle.milling.proofs.Seen.{met_here}
 use Rattle.milling.proofs.scanning.met_at.Goals as goal
 
-pub returns-in-default : goal.returns-in-default
-returns-in-default g c = record { bounds = here_bare _ c.in-default.ensures; reached = inl refl }
+pub returns-in_default : goal.returns-in_default
+returns-in_default g c = record { bounds = here_bare _ c.in_default.ensures; reached = inl refl }
 
 pub returns-then-underside-sample : goal.returns-then-underside-sample
 returns-then-underside-sample g c =

@@ -1,21 +1,21 @@
 -- The clamp is taken, and leaves the allowance its class.
-use Rattle.std.proofs.Common.{◌≡◌, [], ◌∷◌, ◌++◌, pos, sym, ap, ◌∙◌, arith}
+use Rattle.std.proofs.Common.{◌≡◌, [], ◌∷◌, ◌++◌, pos, ap, ◌∙◌, arith}
 use Rattle.std.proofs.lemmas.Int.{ints}
 use Rattle.fields.specs.Rasters.{raster_sample}
 use Rattle.fields.specs.declared.raster.Raster.{Raster}
 use Rattle.setups.specs.Stocks.{stocked_sample}
 use Rattle.setups.specs.Tables.{clamps_of}
 use Rattle.setups.specs.declared.allowance.Allowance.{Allowance}
-use Rattle.plates.specs.Plates.{clamp, corner, level_part}
+use Rattle.plates.specs.Plates.{clamp, corner}
 use Rattle.plates.proofs.Piles.{part_told, pile_told, taken}
 use Rattle.plates.proofs.Values.{plates}
 use Rattle.plates.proofs.pile.worked_pile.Goals as goal
 
-pub returns-in-default-add : goal.returns-in-default-add
-returns-in-default-add c =
+pub returns-in_default-add : goal.returns-in_default-add
+returns-in_default-add c =
     let grid = ap (λ (x : Allowance Raster). x.below.grid) c.new-setup.ensures.0 in
     let holds = c.in-Ok.ensures.holds in
-    absurd (taken c.new-setup.result.below.below.grid _ _ (ap (λ g. pos g.columns) grid ∙ holds.0) (ap (λ g. pos g.rows) grid ∙ holds.1) c.new-setup.ensures.1 c.in-default-add.ensures.accepts)
+    absurd (taken c.new-setup.result.below.below.grid _ _ (ap (λ g. pos g.columns) grid ∙ holds.0) (ap (λ g. pos g.rows) grid ∙ holds.1) c.new-setup.ensures.1 c.in_default-add.ensures.accepts)
 
 pub returns : goal.returns
 returns c =

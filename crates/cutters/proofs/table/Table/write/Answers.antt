@@ -6,12 +6,12 @@ use Rattle.cutters.specs.CellsLemmas.{entries_set, row_put, put_keeps}
 use Rattle.cutters.specs.TablesLemmas.{written}
 use Rattle.cutters.proofs.table.Table.write.Goals as goal
 
-pub invariant-of-self : goal.invariant-of-self
-invariant-of-self c d =
+pub invariant_of-self : goal.invariant_of-self
+invariant_of-self c d =
     let t = c.args.self.now in
-    let i = c.in-ok-at.at.row in
-    let at = c.in-ok-at.ensures.at in
-    let holds = c.in-ok-at.ensures.holds in
+    let i = c.in_ok-at.at.row in
+    let at = c.in_ok-at.ensures.at in
+    let holds = c.in_ok-at.ensures.holds in
     let r = get_or t.rows i d in
     let lt : i < length t.rows = omega (arith, t.sized, at.2) in (
       (length-set r.heights _ _ ∙ r.sized, (entries_set r.heights _ _ r.ranged holds.0, tt)),
@@ -24,11 +24,11 @@ invariant-of-self c d =
 pub returns : goal.returns
 returns c =
     let t = c.args.self.now in
-    let i = c.in-ok-at.at.row in
+    let i = c.in_ok-at.at.row in
     let fx = c.ranges.dx in
     let fy = c.ranges.dy in
     let fz = c.ranges.height in
-    let e = c.in-ok-at.ensures in
+    let e = c.in_ok-at.ensures in
     let at = simp to_z-of_z at e.at in
     let lt : i < length t.rows = omega (arith, t.sized, at.2) in
     record {

@@ -6,26 +6,26 @@ use Rattle.facets.specs.Drawn.{facet_at}
 use Rattle.facets.proofs.Giving.{given_told, sole_as}
 use Rattle.facets.proofs.facet.Facet.height_over.Goals as goal
 
-pub returns-in-default : goal.returns-in-default
+pub returns-in_default : goal.returns-in_default
 unfolding facet_at
-returns-in-default c =
+returns-in_default c =
     let e : Some ceiling ≡ facet_at c.args.self.now c.args.x c.args.y = search rules in record { value = e; sole = sole_as _ _ _ e }
 
-pub returns-in-default-corner-of : goal.returns-in-default-corner-of
+pub returns-in_default-corner_of : goal.returns-in_default-corner_of
 unfolding facet_at
-returns-in-default-corner-of c =
+returns-in_default-corner_of c =
     let e : Some ceiling ≡ facet_at c.args.self.now c.args.x c.args.y = search rules in record { value = e; sole = sole_as _ _ _ e }
 
-pub returns-in-default-corner-of-2 : goal.returns-in-default-corner-of-2
+pub returns-in_default-corner_of-2 : goal.returns-in_default-corner_of-2
 unfolding facet_at
-returns-in-default-corner-of-2 c =
+returns-in_default-corner_of-2 c =
     let e : Some ceiling ≡ facet_at c.args.self.now c.args.x c.args.y = search rules in record { value = e; sole = sole_as _ _ _ e }
 
 pub returns-in-Some-height : goal.returns-in-Some-height
 returns-in-Some-height c =
-    let fr : SFits w32 c.from-floor.result = search rules in
-    let e = given_told c.args.self.now c.args.x c.args.y _ _ _ _ _ _ _ c.in-Some.ensures.value c.in-Some-corner-of.ensures.value c.in-Some-corner-of-2.ensures.value c.from.ensures c.from-2.ensures c.in-Some-height.ensures.value c.from-floor.ensures in
-    simp (to_z-of_z w32 c.from-floor.result fr) record { value = e; sole = sole_as _ _ _ e }
+    let fr : SFits w32 c.from_floor.result = search rules in
+    let e = given_told c.args.self.now c.args.x c.args.y _ _ _ _ _ _ _ c.in-Some.ensures.value c.in-Some-corner_of.ensures.value c.in-Some-corner_of-2.ensures.value c.from.ensures c.from-2.ensures c.in-Some-height.ensures.value c.from_floor.ensures in
+    simp (to_z-of_z w32 c.from_floor.result fr) record { value = e; sole = sole_as _ _ _ e }
 
 pub returns-in-None : goal.returns-in-None
 unfolding facet_at

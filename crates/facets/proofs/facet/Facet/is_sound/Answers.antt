@@ -5,5 +5,5 @@ use Rattle.facets.proofs.facet.Facet.is_sound.Goals as goal
 
 pub returns : goal.returns
 returns c =
-    let e = c.all-placed.ensures in
+    let e = c.all_placed.ensures in
     record { yes = λ t. sound_tested _ (sym e ∙ is_true _ t); no = λ s. subst T (sym (e ∙ sound_told _ s)) tt }

@@ -10,5 +10,5 @@ returns-in-Some c =
     let fz : SFits w32 c.args.height = c.ranges.height in
     let fh : SFits w32 c.in-Some.h = search rules in
     let fr : SFits w32 c.greater.result = search rules in
-    let m = simp to_z-of_z at (greater_max _ _ _ c.greater.ensures) in
+    let m = greater_max c.args.height c.in-Some.h c.greater.result (simp to_z-of_z at c.greater.ensures) in
     simp to_z-of_z (m ∙ ap (or_given c.args.height) c.in-Some.ensures.value)

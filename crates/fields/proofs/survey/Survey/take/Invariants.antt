@@ -1,5 +1,4 @@
 -- The samples written so far.
-use Rattle.std.proofs.Common.{◌≡◌, length}
 use Rattle.fields.proofs.Surveying.{Sofar}
 use Rattle.fields.proofs.survey.Survey.take.Given as goal
 

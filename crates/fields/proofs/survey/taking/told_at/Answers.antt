@@ -1,5 +1,5 @@
 -- The node at the place is the one.
-use Rattle.std.proofs.Common.{◌≡◌, ap, ◌∙◌, subst}
+use Rattle.std.proofs.Common.{◌≡◌, subst}
 use Rattle.zmap.specs.Maps.{On, place}
 use Rattle.zmap.specs.declared.grid.Grid.{Grid}
 use Rattle.fields.proofs.Surveying.{told_by}

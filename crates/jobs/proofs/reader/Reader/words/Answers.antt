@@ -11,16 +11,16 @@ loop-i-init g c = start _ _ _ (length-replicate _ _)
 
 pub loop-i-preserved : goal.loop-i-preserved
 loop-i-preserved g c =
-    let f : SFits w32 c.in-ok-out.field-0 = search rules in
-    let was = c.in-ok-out.ensures in
+    let f : SFits w32 c.in_ok-out.field-0 = search rules in
+    let was = c.in_ok-out.ensures in
     simp to_z-of_z (one_more _ _ _ _ _ _ _ c.loop-i.invariant c.loop-i-test.true was.gives was.takes)
 
 pub returns : goal.returns
 returns g c =
     record { gives = done _ _ _ _ _ c.loop-i.invariant c.loop-i-test.false c.loop-i.auto.i-end; takes = omega arith }
 
-pub returns-in-err-out : goal.returns-in-err-out
-returns-in-err-out g c =
-    let p = err_from_is_err_and c.from-residual.result c.from-residual.ensures.1 in
-    let was = c.in-err-out.ensures in
+pub returns-in_err-out : goal.returns-in_err-out
+returns-in_err-out g c =
+    let p = err_from_is_err_and c.from_residual.result c.from_residual.ensures.1 in
+    let was = c.in_err-out.ensures in
     rw (p.1, p.2) record { gives = stop _ _ _ _ _ _ c.loop-i.invariant c.loop-i-test.true was.gives; takes = tt }

@@ -1,9 +1,8 @@
 -- The clamp of that number is raised, and the others stay.
-use Rattle.std.proofs.Common.{◌≡◌, ◌<◌, true, length, get_or, take, refl, ap, arith}
+use Rattle.std.proofs.Common.{◌≡◌, true, length, take, refl, arith}
 use Rattle.std.proofs.lemmas.List.{length-take-le}
 use Rattle.std.proofs.lemmas.Int.{ints, to_z-of_z}
 use Rattle.zmap.specs.Limits.{is_height}
-use Rattle.setups.specs.Tables.{at_height}
 use Rattle.setups.proofs.Entries.{raised_set, raising_none}
 use Rattle.setups.proofs.table.Clamps.raise.Goals as goal
 

@@ -10,5 +10,5 @@ returns-then-covers c =
     let fz : SFits w32 c.args.height = c.ranges.height in
     let fk : SFits w32 c.args.clamp.height = search rules in
     let fr : SFits w32 c.greater.result = search rules in
-    let m = simp to_z-of_z at (greater_max _ _ _ c.greater.ensures) in
+    let m = greater_max c.args.height c.args.clamp.height c.greater.result (simp to_z-of_z at c.greater.ensures) in
     simp to_z-of_z (lifted_over c.args.n c.args.height c.args.clamp c.greater.result (sym c.if-covers.ensures) m)

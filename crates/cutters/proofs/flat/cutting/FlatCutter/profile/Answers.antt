@@ -4,8 +4,8 @@ use Rattle.cutters.specs.Discs.{in_disc}
 use Rattle.cutters.specs.DiscsLemmas.{covered, disc_le, disc_past, uncovered}
 use Rattle.cutters.proofs.flat.cutting.FlatCutter.profile.Goals as goal
 
-pub returns-in-default : goal.returns-in-default
-returns-in-default c =
+pub returns-in_default : goal.returns-in_default
+returns-in_default c =
     let t = c.args.self.now in
     let out : in_disc t.pitch.microns t.radius c.args.o ≡ false = search rules in
     record { value = uncovered _ _ out; drawn = disc_past t.pitch.microns t.radius c.args.o out }

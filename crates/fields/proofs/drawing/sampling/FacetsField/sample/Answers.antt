@@ -2,7 +2,6 @@
 use Rattle.std.proofs.Common.{ℤ, ap, w32, SFits, rules}
 use Rattle.std.proofs.lemmas.Int.{to_z-of_z}
 use Rattle.zmap.specs.declared.class.Class.TheVariants.{Part}
-use Rattle.zmap.specs.declared.sample.Sample.{Sample}
 use Rattle.fields.proofs.Summits.{height_at, highest_as}
 use Rattle.fields.proofs.drawing.sampling.FacetsField.sample.Goals as goal
 

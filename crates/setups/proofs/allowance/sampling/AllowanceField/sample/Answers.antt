@@ -1,5 +1,5 @@
 -- The sample below at the height with the stock on it.
-use Rattle.std.proofs.Common.{sym, subst, w32, SFits, rules}
+use Rattle.std.proofs.Common.{w32, SFits, rules}
 use Rattle.std.proofs.lemmas.Int.{to_z-of_z}
 use Rattle.setups.proofs.Stocking.{carries_as, under_stock}
 use Rattle.setups.proofs.allowance.sampling.AllowanceField.sample.Goals as goal
