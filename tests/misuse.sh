@@ -1,26 +1,31 @@
 #!/usr/bin/env bash
 # Shows that two misuses of a set-up do not compile: adding a clamp after locking, and cutting against an open set-up.
 # Each is a program that differs from an accepted one in one line, and the compiler names that fault. Takes no arguments, and
-# writes to a temporary folder alone. Proofs that target/ already has are taken over; without it the libraries are proved first.
+# writes to a temporary folder alone, where the libraries that the programs use are proved first.
 set -uo pipefail
 home=$(cd "$(dirname "$0")/.." && pwd -P) || exit 2
 room=$(mktemp -d) || exit 2
 trap 'rm -rf "$room"' EXIT
-cp -R "$home/crates" "$home/crates.txt" "$room/" || exit 2
-if [ -d "$home/target/rlib" ] && [ -d "$home/target/stamp" ]; then
-    mkdir "$room/target" && cp -R "$home/target/rlib" "$home/target/stamp" "$room/target/" || exit 2
-fi
+libraries='zmap cutters setups milling'
+for library in $libraries; do
+    mkdir -p "$room/crates/$library" || exit 2
+    for part in src specs proofs; do
+        cp -R "$home/crates/$library/$part" "$room/crates/$library/" || exit 2
+    done
+    grep "^$library:" "$home/crates.txt" >>"$room/crates.txt" || exit 2
+done
 cd "$room" || exit 2
 
 # Writes the program NAME: the accepted one, with its line OLD as NEW.
 program() { # NAME OLD NEW
     mkdir -p "crates/$1/src"
-    echo "$1: zmap cutters setups milling" >>crates.txt
+    echo "$1: $libraries" >>crates.txt
     text='// A set-up with one clamp, locked and cut against.
+#![tactic(auto)]
+
 use cutters::Cutter;
 use milling::pose;
-use setups::Clamp;
-use setups::OpenSetup;
+use setups::{Clamp, OpenSetup};
 use zmap::Field;
 
 pub fn cut<F: Field + Drop, C: Cutter>(field: F, clamp: Clamp, cutter: &C, block: &mut [i32]) -> bool {
@@ -53,17 +58,17 @@ told() { # YES WHAT
 
 # The program NAME has to be refused, with the error WORDS at LINE and no other error.
 refused() { # NAME LINE WORDS WHAT
-    rt check "$1" >said 2>&1
+    (cd "crates/$1" && rt check) >said 2>&1
     status=$?
     answer=no
-    if [ "$status" -eq 1 ] && [ "$(grep -c ': error' said)" -eq 1 ] && grep ": error" said | grep -F "$1/src/lib.rt:$2:" | grep -qF "$3"; then answer=yes; fi
+    if [ "$status" -ne 0 ] && [ "$(grep -c ': error' said)" -eq 1 ] && grep ": error" said | grep -F "src/lib.rt:$2:" | grep -qF "$3"; then answer=yes; fi
     told "$answer" "$4"
 }
 
 answer=no
-if rt check accepted >said 2>&1 && grep -q '^rt: accepted proved' said; then answer=yes; fi
+if (cd crates/accepted && rt check) >said 2>&1 && grep -q '^fn accepted::cut: proved' said; then answer=yes; fi
 told "$answer" 'accepted: a clamp is added, the set-up is locked, and a pose is cut against it'
-refused moved_set_up 12 'error[borrow-e0382]: borrow of moved value: `open`' 'refused: a clamp is added to the open set-up after locking, which has ended it'
-refused locked_set_up 12 'error[unknown-method]: no method named `add` found for type `Setup<F>`' 'refused: a clamp is added to the locked set-up, which has no such call'
-refused open_guard 13 'error[mismatched-types]: expected `&Setup<_>`, found `&OpenSetup<F>`' 'refused: a pose is cut against the open set-up'
+refused moved_set_up 13 'error[borrow-e0382]: borrow of moved value: `open`' 'refused: a clamp is added to the open set-up after locking, which has ended it'
+refused locked_set_up 13 'error[unknown-method]: no method named `add` found for type `Setup<F>`' 'refused: a clamp is added to the locked set-up, which has no such call'
+refused open_guard 14 'error[mismatched-types]: expected `&Setup<_>`, found `&OpenSetup<F>`' 'refused: a pose is cut against the open set-up'
 exit "$wrong"

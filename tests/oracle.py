@@ -354,10 +354,10 @@ def run(program, many, seed):
         ran = subprocess.run([program], input=text, capture_output=True, timeout=60)
         printed = ran.stdout.decode("utf-8", "replace").splitlines()
         if ran.returncode != 0 or printed != expected:
-            os.makedirs("target", exist_ok=True)
-            with open("target/differs.job", "wb") as file:
+            os.makedirs("out", exist_ok=True)
+            with open("out/differs.job", "wb") as file:
                 file.write(text)
-            print(f"job {k} of seed {seed} differs, and is in target/differs.job; status {ran.returncode}")
+            print(f"job {k} of seed {seed} differs, and is in out/differs.job; status {ran.returncode}")
             for i in range(max(len(printed), len(expected))):
                 a, b = (x[i] if i < len(x) else "nothing" for x in (expected, printed))
                 if a != b:
@@ -375,7 +375,7 @@ def run(program, many, seed):
 
 if __name__ == "__main__":
     if len(sys.argv) in (4, 5) and sys.argv[1] == "make":
-        make(int(sys.argv[2]), int(sys.argv[3]), sys.argv[4] if len(sys.argv) == 5 else "target/random")
+        make(int(sys.argv[2]), int(sys.argv[3]), sys.argv[4] if len(sys.argv) == 5 else "out/random")
     elif len(sys.argv) == 5 and sys.argv[1] == "run":
         sys.exit(run(sys.argv[2], int(sys.argv[3]), int(sys.argv[4])))
     else:

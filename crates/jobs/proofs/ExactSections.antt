@@ -1,7 +1,7 @@
 -- Each section takes exactly the words of its records. Assumes nothing.
 use Rattle.std.proofs.Common.{◌≡◌, ℕ, ◌*◌, ◌≤◌, List, [], ◌∷◌, length, ℤ, pos, None, sym, ap, ◌∙◌, subst, arith}
 use Rattle.std.proofs.lemmas.Int.{ints}
-use Rattle.std.specs.List.{AllByRecursion as All}
+use Rattle.std.specs.List.{AllByRecursion}
 use Rattle.setups.specs.declared.clamp.Clamp.{Clamp}
 use Rattle.jobs.specs.Parsers.{number}
 use Rattle.setups.specs.Clamps.{clamp_fault}
@@ -20,10 +20,10 @@ abbrev pub Second : Extent → Turned → List ℤ → Type 0
 Second g t ws = Section CutterWords (t ∷ []) ws × Fitted g.pitch t
 
 abbrev pub Third : Extent → List ℤ → List ℤ → Type 0
-Third g hs ws = Section HeightWords hs ws × All (λ z. Unit {0}) hs × (g.columns * g.rows ≤ length hs) × (length hs ≤ g.columns * g.rows)
+Third g hs ws = Section HeightWords hs ws × AllByRecursion (λ z. Unit {0}) hs × (g.columns * g.rows ≤ length hs) × (length hs ≤ g.columns * g.rows)
 
 abbrev pub Sixth : Extent → List Clamp → List ℤ → Type 0
-Sixth g ks ws = Section ClampWords ks ws × All (λ k. clamp_fault g.columns g.rows k ≡ None) ks × (0 ≤ length ks) × (length ks ≤ 16)
+Sixth g ks ws = Section ClampWords ks ws × AllByRecursion (λ k. clamp_fault g.columns g.rows k ≡ None) ks × (0 ≤ length ks) × (length ks ≤ 16)
 
 pub exact_grid : Exact grid_section First
 unfolding grid_section
@@ -46,7 +46,7 @@ exact_clamps g =
 number_below : (bs : List ℕ) (n : ℕ) → number bs ≡ pos n → n ≤ 2147483647
 number_below bs n h = omega (arith, ints, h)
 
-pub all_unit : {X : Type 0} (xs : List X) → All (λ x. Unit {0}) xs
+pub all_unit : {X : Type 0} (xs : List X) → AllByRecursion (λ x. Unit {0}) xs
 all_unit [] = tt
 all_unit (x ∷ xs) = (tt, all_unit xs)
 
