@@ -61,7 +61,7 @@ refused() { # NAME LINE WORDS WHAT
     (cd "crates/$1" && rt check) >said 2>&1
     status=$?
     answer=no
-    if [ "$status" -ne 0 ] && [ "$(grep -c ': error' said)" -eq 1 ] && grep ": error" said | grep -F "src/lib.rt:$2:" | grep -qF "$3"; then answer=yes; fi
+    if [ "$status" -eq 1 ] && [ "$(grep -c ': error' said)" -eq 1 ] && grep ": error" said | grep -F "src/lib.rt:$2:" | grep -qF "$3"; then answer=yes; fi
     told "$answer" "$4"
 }
 

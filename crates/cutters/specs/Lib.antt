@@ -12,6 +12,7 @@ pub mod Tables
 pub mod RoundTools
 pub mod BallsLemmas
 pub mod DiscsLemmas
+pub mod FlatsLemmas
 pub mod Order
 pub mod LargestLemmas
 pub mod ConesLemmas

@@ -1,8 +1,7 @@
 // The flat cutter behind the interface.
-ghost use Rattle.std.specs.Prelude.{◌≡◌, refl};
+ghost use Rattle.std.specs.Prelude.{◌≡◌};
 ghost use Rattle.cutters.specs.Flats.{flat_shape, FlatDrawn};
-ghost use Rattle.std.proofs.Common.{arith};
-ghost use Rattle.cutters.specs.DiscsLemmas.{disc_lawful};
+ghost use Rattle.cutters.specs.FlatsLemmas.{flat_lawful};
 
 use crate::disc::square_at;
 use crate::{Cutter, Flat};
@@ -18,7 +17,7 @@ impl Cutter for Flat {
 
     ghost widest = { λ t. 15 };
 
-    ghost lawful = { λ t. disc_lawful t.pitch.microns t.radius (λ _. 0) t.near refl (λ _ _. omega arith) };
+    ghost lawful = { λ t. flat_lawful t.pitch.microns t.radius t.near };
 
     fn pitch(&self) -> Pitch {
         self.pitch

@@ -1,10 +1,8 @@
 // A round cutter of any kind behind the interface.
 ghost use Rattle.cutters.specs.RoundTools.{round_shape, round_spacing};
-ghost use Rattle.std.specs.Prelude.{refl};
-ghost use Rattle.std.proofs.Common.{arith};
 ghost use Rattle.cutters.specs.BallsLemmas.{ball_lawful};
 ghost use Rattle.cutters.specs.ConesLemmas.{cone_lawful};
-ghost use Rattle.cutters.specs.DiscsLemmas.{disc_lawful};
+ghost use Rattle.cutters.specs.FlatsLemmas.{flat_lawful};
 ghost use Rattle.cutters.specs.declared.round.RoundTool.TheVariants.{Flat, Cone, Ball};
 
 use crate::{Cutter, RoundTool};
@@ -21,7 +19,7 @@ impl Cutter for RoundTool {
     ghost widest = { λ t. 15 };
 
     ghost lawful = { elim [
-      | Flat t ↦ disc_lawful t.pitch.microns t.radius (λ _. 0) t.near refl (λ _ _. omega arith)
+      | Flat t ↦ flat_lawful t.pitch.microns t.radius t.near
       | Cone t ↦ cone_lawful t.pitch.microns t.radius t.tip t.rise t.near
       | Ball t ↦ ball_lawful t.pitch.microns t.radius t.slim t.near
     ] };
