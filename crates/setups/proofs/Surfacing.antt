@@ -14,13 +14,10 @@ use Rattle.setups.specs.Tables.{is_over, lifted, raised_by}
 pub lifted_over : (n : Node) (z : ℤ) (k : Clamp) (r : ℤ) → is_over k n ≡ true → r ≡ int_max z k.height → r ≡ lifted n z k
 lifted_over n z k r over is = is ∙ sym (cond-true (is_over k n) (int_max z k.height) z over)
 
-pub same_told : (a b : ℤ) → same_height a b ≡ true → a ≡ b
-same_told a b e = grind (arith, ints)
-
 pub same_yes : (a b : ℤ) → a ≡ b → same_height a b ≡ true
 same_yes a b e = grind (arith, ints)
 
-same_no : (a b : ℤ) → (a ≡ b → ⊥) → same_height a b ≡ false
+pub same_no : (a b : ℤ) → (a ≡ b → ⊥) → same_height a b ≡ false
 same_no a b ne = grind (arith, ints)
 
 pub raised_more : (n : Node) (z : ℤ) (es : List Clamp) (i : ℕ) (d : Clamp) (h h' : ℤ) → i < length es → h ≡ raised_by n z (take i es) → h' ≡ lifted n h (get_or es i d) → h' ≡ raised_by n z (take (i + 1) es)

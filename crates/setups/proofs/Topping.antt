@@ -1,16 +1,17 @@
 -- The height under clamps is the greatest of the height below and of the clamps over the sample. Assumes nothing.
-use Rattle.std.proofs.Common.{◌≡◌, zero, suc, true, false, ◌⊎◌, List, [], ◌∷◌, ℤ, ◌≤ℤ◌, sym, refl, ap, ◌∙◌, subst, inl, inr, ⊎_elim, suc-le-suc, le_of_suc-le-suc, not-suc-le-zero, arith}
+use Rattle.std.proofs.Common.{◌≡◌, zero, true, false, ◌⊎◌, List, [], ◌∷◌, ℤ, ◌≤ℤ◌, sym, refl, ap, ◌∙◌, subst, inl, inr, ⊎_elim, arith}
 use lib.Signed.{≤ℤ_refl}
 use Rattle.std.proofs.lemmas.Int.{ints, clamps}
 use Rattle.std.proofs.lemmas.Bool.{both_ways, cases_Bool, cond-true, cond-false}
 use Rattle.std.specs.Int.{int_max}
-use Rattle.std.specs.List.{ContainsAt as Has}
+use Rattle.zmap.proofs.Members.{has_cases, has_more, has_none}
 use Rattle.zmap.specs.declared.class.Class.TheVariants.{Fixture}
 use Rattle.zmap.specs.declared.node.Node.{Node}
 use Rattle.zmap.specs.declared.sample.Sample.{Sample}
 use Rattle.setups.specs.declared.clamp.Clamp.{Clamp}
 use Rattle.setups.specs.Surfaces.{Stands, same_height, setup_sample}
-use Rattle.setups.proofs.Surfacing.{same_told, same_yes}
+use Rattle.setups.specs.LayerHeight.{same_told}
+use Rattle.setups.proofs.Surfacing.{same_yes}
 use Rattle.setups.specs.Tables.{Tops, is_over, lifted, raised_by}
 
 -- what one clamp makes of the height z
@@ -36,17 +37,6 @@ lifts n z k =
     let e = cond-false (is_over k n) (int_max z k.height) z f in
     record { above = rw e (≤ℤ_refl z); over = λ t. absurd (both_ways (is_over k n) f t); reached = inl e })
     (cases_Bool (is_over k n))
-
--- one clamp more, in front
-has_more : (k x : Clamp) (ks : List Clamp) → Has ks x → Has (k ∷ ks) x
-has_more k x ks (i, lt, at) = (suc i, suc-le-suc lt, at)
-
-has_cases : (k x : Clamp) (ks : List Clamp) → Has (k ∷ ks) x → (k ≡ x) ⊎ Has ks x
-has_cases k x ks (zero, lt, at) = inl (at k)
-has_cases k x ks (suc i, lt, at) = inr (i, le_of_suc-le-suc lt, at)
-
-has_none : (x : Clamp) → Has [] x → ⊥
-has_none x (i, lt, at) = not-suc-le-zero lt
 
 pub tops : (n : Node) (z : ℤ) (ks : List Clamp) → Tops n z ks (raised_by n z ks)
 tops n z [] = record { above = ≤ℤ_refl z; over = λ x has _. absurd (has_none x has); reached = inl refl }
