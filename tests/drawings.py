@@ -1,15 +1,9 @@
 #!/usr/bin/env python3
-# What the program drawings is to print, from the rules as tests/planes.py has them.
+# What the program drawings is to print, from the rules as tests/oracle.py has them.
 #
 #   python3 tests/drawings.py           prints what drawings is to print
 #   python3 tests/drawings.py write     writes crates/drawings/stdout
-import os
-import sys
-
-from oracle import table
-from planes import drawn, first_bad, height_over
-
-ROOT = os.path.join(os.path.dirname(os.path.abspath(__file__)), "..", "crates", "drawings")
+from oracle import deliver, drawn, first_bad, height_over, table
 
 
 def drawings():
@@ -31,9 +25,4 @@ def points():
         yield f"point {' '.join(map(str, case))}: {'nothing' if height is None else height}"
 
 
-text = "".join(line + "\n" for line in [*drawings(), *points()])
-if sys.argv[1:] == ["write"]:
-    with open(os.path.join(ROOT, "stdout"), "w") as file:
-        file.write(text)
-else:
-    sys.stdout.write(text)
+deliver("drawings", [*drawings(), *points()])

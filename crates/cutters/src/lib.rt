@@ -1,4 +1,4 @@
-// Cutters behind one interface, and the order in which their offsets are scanned.
+// Cutters behind one interface.
 #![tactic(auto)]
 
 mod ball;
@@ -7,7 +7,6 @@ mod cutter;
 mod disc;
 mod flat;
 mod measured;
-mod ring;
 mod round;
 mod row;
 mod table;
@@ -17,5 +16,4 @@ pub use cone::Cone;
 pub use cutter::Cutter;
 pub use flat::Flat;
 pub use measured::Measured;
-pub use ring::offsets;
 pub use round::RoundTool;

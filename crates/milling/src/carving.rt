@@ -8,7 +8,8 @@ ghost use Rattle.milling.specs.Losses.{fall, fallen, summed};
 
 use crate::covering::{covered, underside};
 use crate::poses::Pose;
-use cutters::{Cutter, offsets};
+use cutters::Cutter;
+use rings::offsets;
 use zmap::{Grid, Node};
 
 // How many samples were lowered, and the sum of what they lost.

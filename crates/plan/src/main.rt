@@ -2,6 +2,7 @@
 #![tactic(auto)]
 
 mod job;
+mod part;
 
 use std::io::Read;
 

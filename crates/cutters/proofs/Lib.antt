@@ -1,2 +1,0 @@
-pub mod RingTest
-pub mod RingRule

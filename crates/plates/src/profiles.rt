@@ -1,0 +1,27 @@
+// The worked profiles of a ball and of a cone, by the cutters themselves.
+ghost use Rattle.std.specs.Prelude.{◌≡◌};
+ghost use Rattle.plates.specs.Plates.{Plates, worked};
+
+use cutters::{Ball, Cone, Cutter};
+use zmap::Offset;
+
+// The seven worked profiles, those of the ball first, at a pitch of 100 µm.
+pub fn worked_profiles() -> [Option<u32>; 7]
+    ensures values { result ≡ worked }
+    ensures plates { Plates }
+{
+    let Ok(ball) = Ball::new(100, 500) else {
+        return [None; 7];
+    };
+    let Ok(cone) = Cone::new(100, 500, 100, 1000) else {
+        return [None; 7];
+    };
+    let beside = ball.profile(Offset { dx: 1, dy: 0 });
+    let second = ball.profile(Offset { dx: 2, dy: 0 });
+    let rim = ball.profile(Offset { dx: 3, dy: 4 });
+    let past = ball.profile(Offset { dx: 4, dy: 4 });
+    let level = cone.profile(Offset { dx: 1, dy: 0 });
+    let slant = cone.profile(Offset { dx: 2, dy: 2 });
+    let third = cone.profile(Offset { dx: 3, dy: 0 });
+    [beside, second, rim, past, level, slant, third]
+}
