@@ -1,9 +1,15 @@
 #!/usr/bin/env python3
-# What the program drawings is to print, from the rules as tests/oracle.py has them.
+# What the program drawings is to print, from the rules as tests/planes.py has them.
 #
 #   python3 tests/drawings.py           prints what drawings is to print
 #   python3 tests/drawings.py write     writes crates/drawings/stdout
-from oracle import deliver, drawn, first_bad, height_over, table
+import os
+import sys
+
+from oracle import table
+from planes import drawn, first_bad, height_over
+
+ROOT = os.path.join(os.path.dirname(os.path.abspath(__file__)), "..", "crates", "drawings")
 
 
 def drawings():
@@ -25,4 +31,9 @@ def points():
         yield f"point {' '.join(map(str, case))}: {'nothing' if height is None else height}"
 
 
-deliver("drawings", [*drawings(), *points()])
+text = "".join(line + "\n" for line in [*drawings(), *points()])
+if sys.argv[1:] == ["write"]:
+    with open(os.path.join(ROOT, "stdout"), "w") as file:
+        file.write(text)
+else:
+    sys.stdout.write(text)

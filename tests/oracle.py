@@ -4,32 +4,24 @@
 #   python3 tests/oracle.py make N SEED [DIR]     writes N random jobs, DIR/K.job, and the lines of each, DIR/K.lines
 #   python3 tests/oracle.py run PROGRAM N SEED    runs N random jobs through the program: all agree, or the first difference
 import functools
-import math
 import os
 import random
 import re
 import struct
 import subprocess
 import sys
-from fractions import Fraction
 
 FLOOR, CEILING = -500000, 500000
 LOWEST, HIGHEST = -2**31, 2**31 - 1
-# The farthest that a vertex may stand to the east or to the south, the most facets of a job, and the thickest allowance.
-FARTHEST, MOST_FACETS, THICKEST = 1000000, 1500, 100000
 RANK = {"clear": 0, "part": 1, "allowance": 2, "fixture": 3}
 # Every offset of the table: nearer ones first, then by dy, then by dx.
 RING = sorted(((dx, dy) for dx in range(-15, 16) for dy in range(-15, 16)), key=lambda o: (o[0] ** 2 + o[1] ** 2, o[1], o[0]))
 
 
-# A file of a crate.
-def path(crate, *names):
-    return os.path.join(os.path.dirname(os.path.abspath(__file__)), "..", "crates", crate, *names)
-
-
 # The cases of a table in the sources of a crate: its numbers only, never an answer.
 def table(crate, file, name):
-    with open(path(crate, "src", file)) as source:
+    home = os.path.join(os.path.dirname(os.path.abspath(__file__)), "..", "crates", crate, "src", file)
+    with open(home) as source:
         text = re.sub(r"//[^\n]*", "", source.read())
     found = re.search(rf"const {name}: \[\[i32; (\d+)\]; (\d+)\] = \[(.*?)\];", text, re.S)
     width, many = int(found[1]), int(found[2])
@@ -37,19 +29,6 @@ def table(crate, file, name):
     numbers = [int(n) for n in re.findall(r"-?\d+", words)]
     assert len(numbers) == width * many, (file, name)
     return [numbers[i:i + width] for i in range(0, len(numbers), width)]
-
-
-# Prints the lines that a crate's program is to print; with the word write, writes them and the bytes that it reads, if any, for the crate.
-def deliver(crate, lines, stdin=None):
-    text = "".join(line + "\n" for line in lines)
-    if sys.argv[1:] != ["write"]:
-        sys.stdout.write(text)
-        return
-    with open(path(crate, "stdout"), "w") as file:
-        file.write(text)
-    if stdin is not None:
-        with open(path(crate, "stdin"), "wb") as file:
-            file.write(stdin)
 
 
 # The refusals of plain numbers: a fault's number, or nothing.
@@ -91,72 +70,18 @@ def clamp_fault(columns, rows, west, north, east, south, height):
     return None if is_height(height) else 13
 
 
-# A facet is x, y and z of its three vertices.
-def is_facet(facet):
-    return all(0 <= n <= FARTHEST for n in facet[0::3] + facet[1::3]) and all(is_height(z) for z in facet[2::3])
+# The guard: for each sample in row order its height and class.
 
-
-# The place of the first facet with a vertex out of range, or nothing.
-def first_bad(facets):
-    return next((i for i, facet in enumerate(facets) if not is_facet(facet)), None)
-
-
-def stock_fault(microns):
-    return None if 0 <= microns <= THICKEST else 16
-
-
-# What a facet gives over a point: a height, or nothing.
-@functools.lru_cache(maxsize=100000)
-def height_over(facet, x, y):
-    if not is_facet(facet):
-        return CEILING
-    ax, ay, az, bx, by, bz, cx, cy, cz = facet
-    area = (bx - ax) * (cy - ay) - (cx - ax) * (by - ay)
-    if area == 0:
-        return None
-    # The point is a + u (b - a) + v (c - a) in plan.
-    u = Fraction((x - ax) * (cy - ay) - (cx - ax) * (y - ay), area)
-    v = Fraction((bx - ax) * (y - ay) - (x - ax) * (by - ay), area)
-    if u < 0 or v < 0 or u + v > 1:
-        return None
-    return math.ceil(az + u * (bz - az) + v * (cz - az))
-
-
-# The heights of a part for each sample in row order: of a raster, and of facets.
-
-def raster(grid, heights):
-    columns, rows, _ = grid
-    return [heights[i] if i < len(heights) and is_height(heights[i]) else CEILING for i in range(columns * rows)]
-
-
-def drawn(grid, facets):
-    columns, rows, pitch = grid
-    points = [(c * pitch, r * pitch) for r in range(rows) for c in range(columns)]
-    given = [[height_over(tuple(facet), x, y) for facet in facets] for x, y in points]
-    return [max((h for h in heights if h is not None), default=FLOOR) for heights in given]
-
-
-# The part of a job: the raster where heights are given, else the facets.
-def part_of(grid, heights, facets):
-    return raster(grid, heights) if heights else drawn(grid, facets)
-
-
-# The guard: for each sample in row order its height and class, of the part, the allowance (0 where there is none) and the clamps.
 class Guard:
-    def __init__(self, grid, part, stock, clamps):
-        self.columns, self.rows, self.pitch = grid
+    def __init__(self, columns, rows, pitch, heights, clamps):
+        self.columns, self.rows, self.pitch = columns, rows, pitch
         self.told = []
-        for i, below in enumerate(part):
-            c, r = i % self.columns, i // self.columns
-            left = min(CEILING, below + stock)
+        for i in range(columns * rows):
+            below = heights[i] if i < len(heights) and is_height(heights[i]) else CEILING
+            c, r = i % columns, i // columns
             over = [h for west, north, east, south, h in clamps if west <= c <= east and north <= r <= south]
-            height = max([left] + over)
-            self.told.append((height, "fixture" if height != left else "allowance" if left != below else "part"))
-
-
-# The guard of a raster under clamps, and under an allowance below them.
-def raster_guard(grid, heights, clamps=(), stock=0):
-    return Guard(grid, raster(grid, heights), stock, clamps)
+            height = max([below] + over)
+            self.told.append((height, "part" if height == below else "fixture"))
 
 
 # The largest h from 0 to top with the property, which holds at 0 and, once lost, stays lost.
@@ -239,77 +164,68 @@ class Words:
         self.at = end
         return words
 
-    def count(self, section, allowed):
+    def count(self, section, low, high):
         (n,) = self.record(1, section, 0)
-        if n not in allowed:
+        if not low <= n <= high:
             raise Bad(28, section, 0)
         return n
 
 
-# The job of a byte string: grid, cutter, heights, facets, the allowance (0 where there is none), clamps and poses.
+# The job of a byte string: grid, cutter, heights, clamps and poses.
 def parse(text):
     if len(text) > 65536:
         raise Bad(30, 0, 0)
     words = Words(text)
-    words.count(1, [1])
+    words.count(1, 1, 1)
     grid = words.record(3, 1, 0)
     fault = grid_fault(*grid) or (28 if grid[0] * grid[1] > 4096 else None)
     if fault:
         raise Bad(fault, 1, 0)
-    words.count(2, [1])
+    words.count(2, 1, 1)
     kind, *sizes = words.record(4, 2, 0)
     cutter = (kind, grid[2], *sizes)
     fault = cutter_fault(*cutter)
     if fault:
         raise Bad(fault, 2, 0)
     samples = grid[0] * grid[1]
-    heights = [words.record(1, 3, i)[0] for i in range(words.count(3, [0, samples]))]
-    facets = [words.record(9, 4, i) for i in range(words.count(4, [0] if heights else range(MOST_FACETS + 1)))]
-    stock = 0
-    if words.count(5, [0, 1]) == 1:
-        (stock,) = words.record(1, 5, 0)
-        if stock_fault(stock):
-            raise Bad(stock_fault(stock), 5, 0)
+    words.count(3, samples, samples)
+    heights = [words.record(1, 3, i)[0] for i in range(samples)]
+    words.count(4, 0, 0)
+    words.count(5, 0, 0)
     clamps = []
-    for i in range(words.count(6, range(17))):
+    for i in range(words.count(6, 0, 16)):
         clamp = words.record(5, 6, i)
         fault = clamp_fault(grid[0], grid[1], *clamp)
         if fault:
             raise Bad(fault, 6, i)
         clamps.append(clamp)
     poses = []
-    for i in range(words.count(7, range(HIGHEST + 1))):
+    for i in range(words.count(7, 0, HIGHEST)):
         kind, column, row, tip, _, _, _ = words.record(7, 7, i)
         if kind != 1:
             raise Bad(29, 7, i)
         poses.append((column, row, tip))
     if words.at < len(text):
         raise Bad(30, 7, 0)
-    return grid, cutter, heights, facets, stock, clamps, poses
+    return grid, cutter, heights, clamps, poses
 
 
 # What plan prints of a byte string.
 def lines(text):
     try:
-        grid, cutter, heights, facets, stock, clamps, poses = parse(text)
+        grid, cutter, heights, clamps, poses = parse(text)
     except Bad as bad:
         return [str(bad)]
-    guard = Guard(grid, part_of(grid, heights, facets), stock, clamps)
+    guard = Guard(*grid, heights, clamps)
     block = [CEILING] * len(guard.told)
     return [f"{i + 1} {pose(guard, cutter, block, *p)}" for i, p in enumerate(poses)]
 
 
-# The bytes of words, and the words of the seven sections of a job: each count, and its records.
+# Random jobs.
 
 def spell(words):
     return struct.pack(f"<{len(words)}i", *words)
 
-
-def words_of(sections):
-    return [word for records in sections for word in (len(records), *(w for record in records for w in record))]
-
-
-# Random jobs, by their sections.
 
 def random_grid(rng):
     columns, rows = rng.randint(1, 12), rng.randint(1, 9)
@@ -331,73 +247,22 @@ def random_cutter(rng, pitch):
     return kind, pitch, radius, rng.choice([0, radius, radius // 2, rng.randint(0, radius)]), rng.choice([0, 1, 1000, 10000, rng.randint(0, 10000)])
 
 
-# A function that gives random heights, most of them near each other.
-def random_levels(rng):
+def random_heights(rng, many):
     base = rng.choice([0, 0, FLOOR, CEILING - 100, rng.randint(FLOOR, CEILING)])
     spread = rng.choice([0, 1, 3, 100, 400000])
-    return lambda: max(FLOOR, min(CEILING, base + rng.randint(-spread, spread)))
-
-
-def random_heights(rng, many):
-    level = random_levels(rng)
-    heights = [level() for _ in range(many)]
+    heights = [max(FLOOR, min(CEILING, base + rng.randint(-spread, spread))) for _ in range(many)]
     if rng.random() < 0.25:
         for _ in range(rng.randint(1, 1 + many // 8)):
             heights[rng.randrange(many)] = rng.choice([LOWEST, HIGHEST, FLOOR - 1, CEILING + 1, FLOOR, CEILING])
     return heights
 
 
-# A place along x or y: at a sample or beside it, over the map, somewhere else, or at a limit.
-def random_place(rng, samples, pitch):
-    at = rng.randrange(samples) * pitch
-    over = rng.randint(0, samples * pitch)
-    return rng.choice([at, at, at, max(0, at + rng.choice([-1, 1])), over, over, rng.randint(0, FARTHEST), 0, FARTHEST])
-
-
-# The vertices of a facet: new ones, two of an earlier facet and a new one, or with no area in plan.
-def random_corners(rng, facets, vertex):
-    a, b, c = vertex(), vertex(), vertex()
-    kind = rng.randrange(12)
-    if kind < 5 and facets:
-        shared = rng.choice(facets)
-        a, b = shared[0:3], shared[3:6]
-    elif kind == 5:
-        # flat
-        b, c = (*b[:2], a[2]), (*c[:2], a[2])
-    elif kind == 6:
-        # over every map there is
-        a, b, c = (0, 0, a[2]), (FARTHEST, 0, b[2]), (0, FARTHEST, c[2])
-    elif kind == 7:
-        # upright, over a line or over a point
-        along = rng.choice([lambda v: (a[0], *v[1:]), lambda v: (v[0], a[1], v[2]), lambda v: (v[0], v[0], v[2]), lambda v: (*a[:2], v[2])])
-        a, b, c = along(a), along(b), along(c)
-    return [a, b, c]
-
-
-# Facets over and beside the map, their vertices in either order round.
-def random_facets(rng, grid, many):
-    columns, rows, pitch = grid
-    level = random_levels(rng)
-    facets = []
-    while len(facets) < many:
-        corners = random_corners(rng, facets, lambda: (random_place(rng, columns, pitch), random_place(rng, rows, pitch), level()))
-        rng.shuffle(corners)
-        facets.append(tuple(n for corner in corners for n in corner))
-    if facets and rng.random() < 0.08:
-        # one with a number of a vertex out of range
-        facet = list(rng.choice(facets))
-        at = rng.randrange(9)
-        facet[at] = rng.choice([LOWEST, HIGHEST] + ([FLOOR - 1, CEILING + 1] if at % 3 == 2 else [-1, FARTHEST + 1]))
-        facets[rng.randrange(many)] = tuple(facet)
-    return facets
-
-
-def random_clamps(rng, guard, many):
+def random_clamps(rng, columns, rows, heights, many):
     clamps = []
     for _ in range(many):
-        west, north = rng.randrange(guard.columns), rng.randrange(guard.rows)
-        east, south = rng.randint(west, min(guard.columns - 1, west + 4)), rng.randint(north, min(guard.rows - 1, north + 4))
-        near = guard.told[north * guard.columns + west][0] + rng.choice([-1, 0, 1, 2, 50, -50])
+        west, north = rng.randrange(columns), rng.randrange(rows)
+        east, south = rng.randint(west, min(columns - 1, west + 4)), rng.randint(north, min(rows - 1, north + 4))
+        near = heights[north * columns + west] + rng.choice([-1, 0, 1, 2, 50, -50])
         height = rng.choice([near, near, near, FLOOR, rng.randint(FLOOR, CEILING)])
         clamps.append((west, north, east, south, max(FLOOR, min(CEILING, height))))
     return clamps
@@ -427,63 +292,40 @@ def random_pose(rng, guard, cutter, poses):
 
 
 def random_job(rng, grid, many_clamps, many_poses):
-    cutter = random_cutter(rng, grid[2])
-    heights, facets = [], []
-    if rng.random() < 0.5:
-        heights = random_heights(rng, grid[0] * grid[1])
-    else:
-        facets = random_facets(rng, grid, rng.choice([0, 1, 2, 3, 6, 12, 40]))
-    stocks = rng.choice([[], [rng.choice([0, 1, 50, THICKEST, rng.randint(0, THICKEST)])]])
-    part = part_of(grid, heights, facets)
-    clamps = random_clamps(rng, Guard(grid, part, sum(stocks), []), many_clamps)
-    guard = Guard(grid, part, sum(stocks), clamps)
+    columns, rows, pitch = grid
+    cutter = random_cutter(rng, pitch)
+    heights = random_heights(rng, columns * rows)
+    clamps = random_clamps(rng, columns, rows, heights, many_clamps)
+    guard = Guard(*grid, heights, clamps)
     poses = []
     for _ in range(many_poses):
         poses.append(random_pose(rng, guard, cutter, poses))
-    moves = [(1, *p, rng.randint(-9, 9), LOWEST, HIGHEST) for p in poses]
-    return [[grid], [(cutter[0], *cutter[2:])], [(z,) for z in heights], facets, [(a,) for a in stocks], clamps, moves]
+    words = [1, *grid, 1, cutter[0], *cutter[2:], len(heights), *heights, 0, 0, len(clamps)]
+    words += [w for clamp in clamps for w in clamp] + [len(poses)]
+    words += [w for p in poses for w in (1, *p, rng.randint(-9, 9), LOWEST, HIGHEST)]
+    return words
 
 
-# The sections with one changed: heights and facets together or one too few or many, too many facets, other allowances.
-def other_sections(rng, sections):
-    (columns, rows, _), facet = sections[0][0], sections[3][0] if sections[3] else (0, 0, 0, 0, 0, 0, 0, 0, 0)
-    samples, changed = columns * rows, list(sections)
-    kind = rng.randrange(5)
-    if kind == 0:
-        changed[2] = [(0,)] * rng.choice([samples - 1, samples, samples + 1])
-    elif kind == 1:
-        changed[3] = [facet] * rng.choice([0, 1, 2])
-    elif kind == 2:
-        changed[2], changed[3] = [], [facet] * rng.choice([MOST_FACETS, MOST_FACETS + 1])
-    elif kind == 3:
-        changed[4] = [(rng.choice([-1, THICKEST + 1, LOWEST, HIGHEST]),)]
-    else:
-        changed[4] = [(0,)] * rng.choice([0, 1, 2, 3])
-    return changed
-
-
-# The job's bytes with something changed: a section, words, a byte, the end, or the length.
-def spoiled(rng, sections):
-    odd = [0, 1, 2, 3, 5, -1, 16, 17, 512, 513, 1501, 4096, 4097, 65536, FLOOR - 1, CEILING + 1, LOWEST, HIGHEST]
-    kind = rng.randrange(9)
-    if kind < 2:
-        return spell(words_of(other_sections(rng, sections)))
-    words = words_of(sections)
-    if kind < 5:
-        # The counts and kinds, the records of the grid and the cutter, and any other word past the heights.
-        counts = [len(words_of(sections[:i])) for i in range(7)]
-        heads = sorted({*range(10), *counts})
+# The job's bytes with something changed: words, a byte, the end, or the length.
+def spoiled(rng, words):
+    odd = [0, 1, 2, 3, 5, -1, 16, 17, 512, 513, 4096, 4097, 65536, FLOOR - 1, CEILING + 1, LOWEST, HIGHEST]
+    kind = rng.randrange(7)
+    if kind < 3:
+        samples = words[1] * words[2]
+        # The counts and kinds, the records of the grid and the cutter, and any other word.
+        heads = [*range(10), 10 + samples, 11 + samples, 12 + samples, 13 + samples + 5 * words[12 + samples]]
+        heads += list(range(13 + samples, len(words)))
         for _ in range(rng.randint(1, 2)):
-            at = rng.choice(heads if kind == 2 else heads + list(range(counts[3], len(words))))
+            at = rng.choice(heads[:14] if kind == 0 else heads)
             words[at] = rng.choice(odd + [words[at] - 1, words[at] + 1])
             words[at] = max(LOWEST, min(HIGHEST, words[at]))
         return spell(words)
     text = bytearray(spell(words))
-    if kind == 5:
+    if kind == 3:
         return bytes(text[:rng.randint(0, len(text))])
-    if kind == 6:
+    if kind == 4:
         return bytes(text) + bytes(rng.choice([1, 2, 3, 4, 28, 70000]))
-    if kind == 7:
+    if kind == 5:
         return bytes(text) + bytes(max(0, rng.choice([65536, 65537]) - len(text)))
     text[rng.randrange(len(text))] = rng.randrange(256)
     return bytes(text)
@@ -492,8 +334,8 @@ def spoiled(rng, sections):
 def jobs(many, seed):
     rng = random.Random(seed)
     for _ in range(many):
-        sections = random_job(rng, random_grid(rng), rng.choice([0, 0, 1, 2, 5, 16]), rng.choice([0, 1, 8, 20, 40]))
-        yield spoiled(rng, sections) if rng.random() < 0.3 else spell(words_of(sections))
+        words = random_job(rng, random_grid(rng), rng.choice([0, 0, 1, 2, 5, 16]), rng.choice([0, 1, 8, 20, 40]))
+        yield spoiled(rng, words) if rng.random() < 0.3 else spell(words)
 
 
 def make(many, seed, folder):

@@ -3,7 +3,12 @@
 #
 #   python3 tests/shapes.py           prints what shapes is to print
 #   python3 tests/shapes.py write     writes crates/shapes/stdout
-from oracle import cutter_fault, deliver, profile, table
+import os
+import sys
+
+from oracle import cutter_fault, profile, table
+
+ROOT = os.path.join(os.path.dirname(os.path.abspath(__file__)), "..", "crates", "shapes")
 
 
 def rows(far, told):
@@ -44,4 +49,9 @@ def measured_cutter():
     yield from rows(8, told)
 
 
-deliver("shapes", [*round_cutters(), *measured_cutter()])
+text = "".join(line + "\n" for part in (round_cutters(), measured_cutter()) for line in part)
+if sys.argv[1:] == ["write"]:
+    with open(os.path.join(ROOT, "stdout"), "w") as file:
+        file.write(text)
+else:
+    sys.stdout.write(text)

@@ -1,6 +1,6 @@
 -- The disc that round cutters cover. Assumes nothing.
 use Rattle.std.specs.Prelude.{ℕ, ◌*◌, ◌<◌, ◌≤◌, Bool, Option, MatchOption, nat_le}
-use Rattle.rings.specs.Rings.{distance}
+use Rattle.cutters.specs.Rings.{distance}
 use Rattle.zmap.specs.declared.node.Offset.{Offset}
 
 -- the square of the distance from the tip to o at the pitch p, in µm²

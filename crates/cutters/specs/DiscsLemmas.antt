@@ -6,9 +6,8 @@ use Rattle.std.proofs.lemmas.Nat.{mul-le, mul-lt}
 use Rattle.std.proofs.lemmas.Int.{to_z-of_z}
 use Rattle.std.proofs.lemmas.Bool.{cases_lt, cases_Bool, cond-true, cond-false, both_ways, leb-true, leb-false, le-leb, lt-leb, and_from}
 use Rattle.cutters.specs.Discs.{square, in_disc}
-use Rattle.rings.specs.Rings.{Near}
-use Rattle.cutters.specs.Profiles.{Lawful, centre}
-use Rattle.rings.proofs.Order.{near_from}
+use Rattle.cutters.specs.Profiles.{Near, Lawful, centre}
+use Rattle.cutters.specs.Order.{near_from}
 use Rattle.zmap.specs.declared.node.Offset.{Offset}
 
 -- what unsigned_abs tells, without its casts

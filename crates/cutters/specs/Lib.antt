@@ -1,5 +1,6 @@
 pub mod Making
 pub mod Profiles
+pub mod Rings
 pub mod Largest
 pub mod Discs
 pub mod Flats
@@ -12,6 +13,7 @@ pub mod RoundTools
 pub mod BallsLemmas
 pub mod DiscsLemmas
 pub mod FlatsLemmas
+pub mod Order
 pub mod LargestLemmas
 pub mod ConesLemmas
 pub mod TablesLemmas

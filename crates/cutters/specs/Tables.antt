@@ -2,8 +2,7 @@
 use Rattle.std.specs.Prelude.{◌≡◌, ℕ, cond, ◌&&◌, ℤ, pos, negsuc, Some, None, Option, MatchOption, ◌≢◌}
 use Rattle.cutters.specs.Cells.{cell}
 use Rattle.cutters.specs.Entries.{index, is_close}
-use Rattle.rings.specs.Rings.{Near}
-use Rattle.cutters.specs.Profiles.{Profile}
+use Rattle.cutters.specs.Profiles.{Near, Profile}
 use Rattle.cutters.specs.declared.table.Table.{Table}
 use Rattle.zmap.specs.declared.node.Offset.{Offset}
 

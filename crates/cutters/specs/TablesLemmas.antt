@@ -5,8 +5,7 @@ use Rattle.std.proofs.lemmas.Int.{ints}
 use Rattle.std.proofs.lemmas.Bool.{and_from, and_parts, cases_Bool, cond_both, cond-false, cond-true}
 use Rattle.cutters.specs.Cells.{cell}
 use Rattle.cutters.specs.Entries.{Entry, index, is_allowed, is_close, is_entry, is_nought, entry_fault}
-use Rattle.rings.specs.Rings.{Near}
-use Rattle.cutters.specs.Profiles.{Lawful}
+use Rattle.cutters.specs.Profiles.{Lawful, Near}
 use Rattle.cutters.specs.Tables.{Blank, MeasuredDrawn, Written, entry_at, height_of, measured_shape}
 use Rattle.cutters.specs.declared.row.Row.{Row}
 use Rattle.cutters.specs.declared.table.Table.{Table}

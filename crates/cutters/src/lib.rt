@@ -1,4 +1,4 @@
-// Cutters behind one interface.
+// Cutters behind one interface, and the order in which their offsets are scanned.
 #![tactic(auto)]
 
 mod ball;
@@ -7,6 +7,7 @@ mod cutter;
 mod disc;
 mod flat;
 mod measured;
+mod ring;
 mod round;
 mod row;
 mod table;
@@ -16,4 +17,5 @@ pub use cone::Cone;
 pub use cutter::Cutter;
 pub use flat::Flat;
 pub use measured::Measured;
+pub use ring::offsets;
 pub use round::RoundTool;

@@ -1,10 +1,9 @@
 -- What it says that a check passed. Assumes nothing.
-use Rattle.std.proofs.Common.{◌≡◌, ℕ, ◌≤◌, Bool, true, false, cond, ◌&&◌, ◌||◌, eqb, leb, ◌⊎◌, List, length, ℤ, pos, negsuc, nat_abs, Some, None, Ok, Err, Decides, Option, Result, refl, ap, subst, arith, eqb-true, le-leb, leb-true}
-use Rattle.std.proofs.lemmas.Bool.Decides.{Decides-eqb, Decides-or, nat_tests}
+use Rattle.std.proofs.Common.{◌≡◌, ℕ, ◌≤◌, Bool, true, false, cond, ◌&&◌, leb, ℤ, pos, negsuc, nat_abs, Some, None, Ok, Err, Option, Result, refl, ap, subst, arith, eqb-true, le-leb, leb-true}
 use Rattle.zmap.specs.Limits.{within}
 use Rattle.zmap.specs.declared.fault.Fault.{Fault}
 use Rattle.zmap.specs.declared.fault.Fault.TheVariants as fault
-use Rattle.jobs.specs.Items.{refusing, is_kind, counted, most_facets}
+use Rattle.jobs.specs.Items.{refusing, is_kind, counted}
 use Rattle.jobs.proofs.Exactness.{ok_same, never}
 
 pub untrue : ◌≡◌ {A = Bool} false true → ⊥
@@ -40,20 +39,6 @@ counted_takes low high (negsuc m) n h = absurd (never _ _ h)
 
 pub counted_gives : (low high n : ℕ) → low ≤ n → n ≤ high → counted low high (pos n) ≡ Ok n
 counted_gives low high n l h = rw (le-leb low n l, le-leb n high h)
-
--- none, or so many
-abbrev pub NoneOr : ℕ → ℕ → Type 0
-NoneOr all n = (n ≡ 0) ⊎ (n ≡ all)
-
-pub none_or : (all n : ℕ) → Decides (eqb n 0 || eqb n all) (NoneOr all n)
-none_or all n = Decides-or _ _ (Decides-eqb n 0) (Decides-eqb n all)
-
--- not more facets than there may be beside the heights
-pub most_takes : (hs : List ℤ) (n : ℕ) → n ≤ most_facets hs → (n ≤ 1500) × ((length hs ≡ 0) ⊎ (n ≡ 0))
-most_takes hs n h = (grind (arith, nat_tests), grind (arith, nat_tests))
-
-pub most_gives : (hs : List ℤ) (n : ℕ) → n ≤ 1500 → (length hs ≡ 0) ⊎ (n ≡ 0) → n ≤ most_facets hs
-most_gives hs n h apart = grind (arith, nat_tests)
 
 pub within_pos : (low high : ℕ) (w : ℤ) → within (pos low) (pos high) w ≡ true → pos (nat_abs w) ≡ w
 within_pos low high (pos n) h = refl

@@ -1,8 +1,7 @@
 -- The reader takes exactly the bytes that encode an allowed job. Assumes nothing.
-use Rattle.std.proofs.Common.{◌≡◌, ℕ, cond, eqb, leb, List, [], ◌++◌, length, ℤ, Ok, Err, sym, refl, ap, ◌∙◌, subst, arith, eqb-true, le-leb, leb-true}
+use Rattle.std.proofs.Common.{◌≡◌, ℕ, cond, eqb, leb, List, [], ◌∷◌, ◌++◌, length, ℤ, pos, Ok, Err, sym, refl, ap, ◌∙◌, subst, arith, eqb-true, le-leb, leb-true}
 use Rattle.std.proofs.lemmas.List.{append-nil, nil_from_length}
 use Rattle.zmap.specs.declared.fault.Fault.TheVariants as fault
-use Rattle.facets.specs.declared.facet.Facet.{Facet}
 use Rattle.setups.specs.declared.clamp.Clamp.{Clamp}
 use Rattle.jobs.specs.declared.bad.Bad.{Bad}
 use Rattle.jobs.specs.declared.job.Job.{Job}
@@ -12,23 +11,23 @@ use Rattle.jobs.specs.Items.{Extent, Turned}
 use Rattle.jobs.specs.Jobs.{Reading, told, sections, ended, parse}
 use Rattle.jobs.specs.Encodings.{MoveWords, Section, Words, Allowed, Encodes, Decodes}
 use Rattle.jobs.proofs.Exactness.{Exact, After, exact_then, exact_end, exact_same, ok_same, never}
-use Rattle.jobs.proofs.Checks.{cond_takes, most_takes, most_gives}
-use Rattle.jobs.proofs.ExactSections.{First, Second, Third, Fourth, Fifth, Sixth, exact_grid, exact_cutter, exact_heights, exact_facets, exact_allowance, exact_clamps, exact_moves}
+use Rattle.jobs.proofs.Checks.{cond_takes}
+use Rattle.jobs.proofs.ExactSections.{First, Second, Third, Sixth, Bare, exact_grid, exact_cutter, exact_heights, exact_clamps, exact_moves, exact_none, all_unit}
 
 -- the words of the seven sections, one after another
-abbrev Ends : Extent → Turned → List ℤ → List Facet → List ℤ → List Clamp → List Move → Reading → List ℤ → Type 0
-Ends g t hs fs ss ks ms j ws = (record { grid = g; cutter = t; heights = hs; facets = fs; allowance = ss; clamps = ks; moves = ms } ≡ j) × (ws ≡ [])
+abbrev Ends : Extent → Turned → List ℤ → List Clamp → List Move → Reading → List ℤ → Type 0
+Ends g t hs ks ms j ws = (record { grid = g; cutter = t; heights = hs; clamps = ks; moves = ms } ≡ j) × (ws ≡ [])
 
 abbrev Laid : Reading → List ℤ → Type 0
 Laid =
-    After First (λ g. After (Second g) (λ t. After (Third g) (λ hs. After (Fourth hs) (λ fs. After Fifth (λ ss. After (Sixth g) (λ ks. After (Section MoveWords) (λ ms. Ends g t hs fs ss ks ms)))))))
+    After First (λ g. After (Second g) (λ t. After (Third g) (λ hs. After Bare (λ a. After Bare (λ b. After (Sixth g) (λ ks. After (Section MoveWords) (λ ms. Ends g t hs ks ms)))))))
 
 exact_laid : Exact sections Laid
 unfolding sections
 exact_laid =
     exact_then _ _ _ _ exact_grid (λ g. exact_then _ _ _ _ (exact_cutter g) (λ t. exact_then _ _ _ _ (exact_heights g) (λ hs.
-    exact_then _ _ _ _ (exact_facets hs) (λ fs. exact_then _ _ _ _ exact_allowance (λ ss. exact_then _ _ _ _ (exact_clamps g) (λ ks.
-    exact_then _ _ _ _ exact_moves (λ ms. exact_end (record { grid = g; cutter = t; heights = hs; facets = fs; allowance = ss; clamps = ks; moves = ms }))))))))
+    exact_then _ _ _ _ (exact_none 4) (λ a. exact_then _ _ _ _ (exact_none 5) (λ b. exact_then _ _ _ _ (exact_clamps g) (λ ks.
+    exact_then _ _ _ _ exact_moves (λ ms. exact_end (record { grid = g; cutter = t; heights = hs; clamps = ks; moves = ms }))))))))
 
 laid_takes : (j : Reading) (ws : List ℤ) → Laid j ws → Words j ws × Allowed j
 laid_takes j ws r1 =
@@ -38,25 +37,21 @@ laid_takes j ws r1 =
     let r5 = r4.5 in
     let r6 = r5.5 in
     let r7 = r6.5 in
-    let few = most_takes r3.0 (length r4.0) r4.4.1.1 in
     let e6 : r5.2 ≡ r6.1 ++ r7.1 = r6.3 ∙ ap (λ v. r6.1 ++ v) (r7.3 ∙ ap (λ v. r7.1 ++ v) r7.5.1 ∙ append-nil r7.1) in
-    let e4 : r3.2 ≡ r4.1 ++ (r5.1 ++ (r6.1 ++ r7.1)) = r4.3 ∙ ap (λ v. r4.1 ++ v) (r5.3 ∙ ap (λ v. r5.1 ++ v) e6) in
+    let e5 : r4.2 ≡ pos 0 ∷ (r6.1 ++ r7.1) = r5.3 ∙ ap (λ u. u ++ r5.2) r5.4.0 ∙ ap (λ v. pos 0 ∷ v) e6 in
+    let e4 : r3.2 ≡ pos 0 ∷ pos 0 ∷ (r6.1 ++ r7.1) = r4.3 ∙ ap (λ u. u ++ r4.2) r4.4.0 ∙ ap (λ v. pos 0 ∷ v) e5 in
     let whole = r1.3 ∙ ap (λ v. r1.1 ++ v) (r2.3 ∙ ap (λ v. r2.1 ++ v) (r3.3 ∙ ap (λ v. r3.1 ++ v) e4)) in
     subst (λ i. Words i ws × Allowed i) r7.5.0 (
       record {
         grid = r1.1;
         cutter = r2.1;
         heights = r3.1;
-        facets = r4.1;
-        allowance = r5.1;
         clamps = r6.1;
         moves = r7.1;
         whole = whole;
         first = r1.4.0;
         second = r2.4.0;
         third = r3.4.0;
-        fourth = r4.4.0;
-        fifth = r5.4.0;
         sixth = r6.4.0;
         seventh = r7.4;
       },
@@ -65,12 +60,8 @@ laid_takes j ws r1 =
         small = r1.4.1.1;
         pitch = r2.4.1.0;
         cutter = r2.4.1.1;
-        heights = r3.4.1;
-        facets = few.0;
-        apart = few.1;
-        single = r5.4.2.1;
-        allowance = r5.4.1;
-        few = r6.4.2.1;
+        heights = omega (arith, r3.4.2, r3.4.3);
+        few = r6.4.3;
         clamps = r6.4.1;
       },
     )
@@ -78,8 +69,7 @@ laid_takes j ws r1 =
 laid_gives : (j : Reading) (ws : List ℤ) → Words j ws × Allowed j → Laid j ws
 laid_gives j ws r =
     let w = r.0 in
-    let a = r.1 in
-    let few = most_gives j.heights (length j.facets) a.facets a.apart in (
+    let a = r.1 in (
       j.grid,
       w.grid,
       _,
@@ -96,25 +86,25 @@ laid_gives j ws r =
           w.heights,
           _,
           refl,
-          (w.third, a.heights),
+          (w.third, all_unit j.heights, omega (arith, a.heights), omega (arith, a.heights)),
           (
-            j.facets,
-            w.facets,
+            0,
+            pos 0 ∷ [],
             _,
             refl,
-            (w.fourth, (omega arith, few)),
+            (refl, refl),
             (
-              j.allowance,
-              w.allowance,
+              0,
+              pos 0 ∷ [],
               _,
               refl,
-              (w.fifth, a.allowance, (omega arith, a.single)),
+              (refl, refl),
               (
                 j.clamps,
                 w.clamps,
-                _,
+                w.moves,
                 refl,
-                (w.sixth, a.clamps, (omega arith, a.few)),
+                (w.sixth, a.clamps, omega arith, a.few),
                 (j.moves, w.moves, [], sym (append-nil w.moves), w.seventh, (refl, refl)),
               ),
             ),

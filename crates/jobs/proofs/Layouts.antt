@@ -1,15 +1,13 @@
 -- The words of each kind of record, read off from what they make. Assumes nothing.
-use Rattle.std.proofs.Common.{◌≡◌, ℕ, zero, suc, ◌*◌, ◌≤◌, Bool, true, false, cond, leb, List, [], ◌∷◌, ◌++◌, length, ℤ, pos, nat_abs, Some, None, Ok, Err, Option, sym, refl, ap, ◌∙◌, subst, arith, le-leb, leb-true}
+use Rattle.std.proofs.Common.{◌≡◌, ℕ, zero, suc, ◌*◌, ◌≤◌, Bool, true, false, cond, leb, List, [], ◌∷◌, length, ℤ, pos, nat_abs, Some, None, Ok, Err, Option, sym, refl, ap, ◌∙◌, subst, arith, le-leb, leb-true}
 use Rattle.zmap.specs.Faults.{grid_fault}
 use Rattle.zmap.specs.declared.fault.Fault.TheVariants as fault
-use Rattle.facets.specs.declared.facet.Facet.{Facet}
 use Rattle.setups.specs.declared.clamp.Clamp.{Clamp}
 use Rattle.jobs.specs.declared.job.Move.{Move}
 use Rattle.jobs.specs.declared.job.Move.TheVariants.{Pose}
 use Rattle.setups.specs.Clamps.{clamp_fault}
-use Rattle.setups.specs.Stocks.{stock_fault}
-use Rattle.jobs.specs.Items.{nth, refusing, is_kind, Extent, extent_of, Turned, flat, cone, ball, turned_pitch, turned_fault, fitted, known, turned_in, turned_of, height_of, facet_in, facet_of, stock_of, clamp_in, clamp_of, move_of}
-use Rattle.jobs.specs.Encodings.{GridWords, CutterWords, HeightWords, vertex_words, FacetWords, StockWords, ClampWords, MoveWords}
+use Rattle.jobs.specs.Items.{nth, refusing, is_kind, Extent, extent_of, Turned, flat, cone, ball, turned_pitch, turned_fault, fitted, known, turned_in, turned_of, height_of, clamp_in, clamp_of, move_of}
+use Rattle.jobs.specs.Encodings.{GridWords, CutterWords, HeightWords, ClampWords, MoveWords}
 use Rattle.jobs.proofs.Exactness.{Made, never, ok_same}
 use Rattle.jobs.proofs.Checks.{refusing_takes, cond_takes, kind_takes, within_pos, grid_in}
 
@@ -100,28 +98,12 @@ cutter_gives pitch (cone p r t s) us w a =
 cutter_gives pitch (ball p r) us w a =
     subst (λ v. Made 4 (turned_of pitch) (ball p r) v) (sym w.2) (refl, subst (λ x. fitted (ball x r) ≡ Ok (ball p r)) a.0 (ap (λ o. refusing o (Ok (ball p r))) a.1))
 
-pub height_takes : (z : ℤ) (us : List ℤ) → Made 1 height_of z us → HeightWords z us
-height_takes z us m = spread_one us m.0 ∙ ap (λ x. x ∷ []) (ok_same _ z m.1)
-
-pub height_gives : (z : ℤ) (us : List ℤ) → HeightWords z us → Made 1 height_of z us
-height_gives z us w = subst (λ v. Made 1 height_of z v) (sym w) (refl, refl)
-
-pub facet_takes : (f : Facet) (us : List ℤ) → Made 9 facet_of f us → FacetWords f us
+pub height_takes : (z : ℤ) (us : List ℤ) → Made 1 height_of z us → HeightWords z us × Unit {0}
 unfolding tabled
-facet_takes f us m =
-    spread 9 us m.0 ∙ ap (λ g. vertex_words g.a ++ (vertex_words g.b ++ vertex_words g.c)) (ok_same (facet_in us) f m.1)
+height_takes z us m = (spread 1 us m.0 ∙ ap (λ x. x ∷ []) (ok_same _ z m.1), tt)
 
-pub facet_gives : (f : Facet) (us : List ℤ) → FacetWords f us → Made 9 facet_of f us
-facet_gives f us w = subst (λ v. Made 9 facet_of f v) (sym w) (refl, refl)
-
-pub stock_takes : (a : ℤ) (us : List ℤ) → Made 1 stock_of a us → StockWords a us × (stock_fault a ≡ None)
-stock_takes a us m =
-    let t = refusing_takes (stock_fault (nth us 0)) _ a m.1 in
-    let e = ok_same (nth us 0) a t.1 in
-    (spread_one us m.0 ∙ ap (λ x. x ∷ []) e, subst (λ x. stock_fault x ≡ None) e t.0)
-
-pub stock_gives : (a : ℤ) (us : List ℤ) → StockWords a us → stock_fault a ≡ None → Made 1 stock_of a us
-stock_gives a us w n = subst (λ v. Made 1 stock_of a v) (sym w) (refl, ap (λ o. refusing o (Ok a)) n)
+pub height_gives : (z : ℤ) (us : List ℤ) → HeightWords z us → Unit {0} → Made 1 height_of z us
+height_gives z us w a = subst (λ v. Made 1 height_of z v) (sym w) (refl, refl)
 
 pub clamp_takes : (columns rows : ℕ) (k : Clamp) (us : List ℤ) → Made 5 (clamp_of columns rows) k us → ClampWords k us × (clamp_fault columns rows k ≡ None)
 unfolding tabled
@@ -136,7 +118,7 @@ pub clamp_gives : (columns rows : ℕ) (k : Clamp) (us : List ℤ) → ClampWord
 clamp_gives columns rows k us w a =
     subst (λ v. Made 5 (clamp_of columns rows) k v) (sym w) (refl, ap (λ o. refusing o (Ok k)) a)
 
-pub move_takes : (m : Move) (us : List ℤ) → Made 7 move_of m us → MoveWords m us
+pub move_takes : (m : Move) (us : List ℤ) → Made 7 move_of m us → MoveWords m us × Unit {0}
 unfolding tabled
 move_takes (Pose column row tip) us m =
     let k = cond_takes (is_kind 1 (nth us 0)) (Ok (Pose (nth us 1) (nth us 2) (nth us 3))) fault.Kind (Pose column row tip) m.1 in
@@ -145,7 +127,7 @@ move_takes (Pose column row tip) us m =
     let ec : nth us 1 ≡ column = cc in
     let er : nth us 2 ≡ row = cc in
     let et : nth us 3 ≡ tip = cc in
-    (nth us 4, nth us 5, nth us 6, spread 7 us m.0 ∙ rw (ek, ec, er, et))
+    ((nth us 4, nth us 5, nth us 6, spread 7 us m.0 ∙ rw (ek, ec, er, et)), tt)
 
-pub move_gives : (m : Move) (us : List ℤ) → MoveWords m us → Made 7 move_of m us
-move_gives (Pose column row tip) us w = subst (λ v. Made 7 move_of (Pose column row tip) v) (sym w.3) (refl, refl)
+pub move_gives : (m : Move) (us : List ℤ) → MoveWords m us → Unit {0} → Made 7 move_of m us
+move_gives (Pose column row tip) us w a = subst (λ v. Made 7 move_of (Pose column row tip) v) (sym w.3) (refl, refl)

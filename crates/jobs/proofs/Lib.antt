@@ -4,7 +4,6 @@ pub mod ExactRuns
 pub mod ExactSections
 pub mod Exactness
 pub mod Fitting
-pub mod Joining
 pub mod Layouts
 pub mod RecordTurns
 pub mod WordTurns

@@ -1,9 +1,7 @@
 -- What the bytes of a job are: the words of its sections in turn, four bytes each. Assumes nothing.
-use Rattle.std.specs.Prelude.{◌≡◌, ℕ, ◌*◌, ◌≤◌, ◌⊎◌, List, [], ◌∷◌, ◌++◌, length, drop, ℤ, pos, None, Ok, Err, Result}
+use Rattle.std.specs.Prelude.{◌≡◌, ℕ, ◌*◌, ◌≤◌, List, [], ◌∷◌, ◌++◌, length, drop, ℤ, pos, None, Ok, Err, Result}
 use Rattle.std.specs.List.{AllByRecursion}
 use Rattle.zmap.specs.Faults.{grid_fault}
-use Rattle.facets.specs.declared.facet.Facet.{Facet}
-use Rattle.facets.specs.declared.facet.Vertex.{Vertex}
 use Rattle.setups.specs.declared.clamp.Clamp.{Clamp}
 use Rattle.jobs.specs.declared.bad.Bad.{Bad}
 use Rattle.jobs.specs.declared.job.Job.{Job}
@@ -11,7 +9,6 @@ use Rattle.jobs.specs.declared.job.Move.{Move}
 use Rattle.jobs.specs.declared.job.Move.TheVariants.{Pose}
 use Rattle.jobs.specs.Parsers.{number}
 use Rattle.setups.specs.Clamps.{clamp_fault}
-use Rattle.setups.specs.Stocks.{stock_fault}
 use Rattle.jobs.specs.Items.{Extent, Turned, flat, cone, ball, turned_pitch, turned_fault}
 use Rattle.jobs.specs.Jobs.{Reading, told}
 
@@ -32,15 +29,6 @@ CutterWords (ball p r) ws = (a : ℤ) × (b : ℤ) × (ws ≡ pos 3 ∷ r ∷ a 
 abbrev pub HeightWords : ℤ → List ℤ → Type 0
 HeightWords z ws = ws ≡ z ∷ []
 
-abbrev pub vertex_words : Vertex → List ℤ
-vertex_words v = v.x ∷ v.y ∷ v.z ∷ []
-
-abbrev pub FacetWords : Facet → List ℤ → Type 0
-FacetWords f ws = ws ≡ vertex_words f.a ++ (vertex_words f.b ++ vertex_words f.c)
-
-abbrev pub StockWords : ℤ → List ℤ → Type 0
-StockWords a ws = ws ≡ a ∷ []
-
 abbrev pub ClampWords : Clamp → List ℤ → Type 0
 ClampWords k ws = ws ≡ k.columns.first ∷ k.rows.first ∷ k.columns.last ∷ k.rows.last ∷ k.height ∷ []
 
@@ -56,35 +44,27 @@ InTurn L (x ∷ xs) ws = (us : List ℤ) × (vs : List ℤ) × (ws ≡ us ++ vs)
 abbrev pub Section : {X : Type 0} → (X → List ℤ → Type 0) → List X → List ℤ → Type 0
 Section L xs ws = (vs : List ℤ) × (ws ≡ pos (length xs) ∷ vs) × InTurn L xs vs
 
--- the words of a job: its seven sections
+-- the words of a job: its seven sections, of which facets and allowance have no records
 pub record Words (j : Reading) (ws : List ℤ) : Type 0 where
   pub grid : List ℤ
   pub cutter : List ℤ
   pub heights : List ℤ
-  pub facets : List ℤ
-  pub allowance : List ℤ
   pub clamps : List ℤ
   pub moves : List ℤ
-  pub whole : ws ≡ grid ++ (cutter ++ (heights ++ (facets ++ (allowance ++ (clamps ++ moves)))))
+  pub whole : ws ≡ grid ++ (cutter ++ (heights ++ (pos 0 ∷ pos 0 ∷ (clamps ++ moves))))
   pub first : Section GridWords (j.grid ∷ []) grid
   pub second : Section CutterWords (j.cutter ∷ []) cutter
   pub third : Section HeightWords j.heights heights
-  pub fourth : Section FacetWords j.facets facets
-  pub fifth : Section StockWords j.allowance allowance
   pub sixth : Section ClampWords j.clamps clamps
   pub seventh : Section MoveWords j.moves moves
 
--- a job that is allowed: no refusal of its grid, cutter, allowance and clamps, counts in range, and not both heights and facets
+-- a job that is allowed: no refusal of its grid, cutter and clamps, and counts in range
 pub record Allowed (j : Reading) : Type 0 where
   pub grid : grid_fault (pos j.grid.columns) (pos j.grid.rows) (pos j.grid.pitch) ≡ None
   pub small : j.grid.columns * j.grid.rows ≤ 4096
   pub pitch : turned_pitch j.cutter ≡ j.grid.pitch
   pub cutter : turned_fault j.cutter ≡ None
-  pub heights : (length j.heights ≡ 0) ⊎ (length j.heights ≡ j.grid.columns * j.grid.rows)
-  pub facets : length j.facets ≤ 1500
-  pub apart : (length j.heights ≡ 0) ⊎ (length j.facets ≡ 0)
-  pub single : length j.allowance ≤ 1
-  pub allowance : AllByRecursion (λ a. stock_fault a ≡ None) j.allowance
+  pub heights : length j.heights ≡ j.grid.columns * j.grid.rows
   pub few : length j.clamps ≤ 16
   pub clamps : AllByRecursion (λ k. clamp_fault j.grid.columns j.grid.rows k ≡ None) j.clamps
 

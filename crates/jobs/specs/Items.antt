@@ -1,5 +1,5 @@
 -- What the words of each kind of record make, or the first fault of them. Assumes nothing.
-use Rattle.std.specs.Prelude.{ℕ, ◌+◌, ◌*◌, Bool, false, cond, ◌&&◌, List, [], ◌∷◌, length, ℤ, pos, negsuc, Some, None, Ok, Err, Option, Result, ◌==◌, nat_le, slice_index_or, unsigned_abs}
+use Rattle.std.specs.Prelude.{ℕ, ◌*◌, Bool, false, cond, ◌&&◌, List, ℤ, pos, negsuc, Some, None, Ok, Err, Option, Result, ◌==◌, nat_le, slice_index_or, unsigned_abs}
 use Rattle.zmap.specs.Faults.{grid_fault}
 use Rattle.zmap.specs.declared.fault.Fault.{Fault}
 use Rattle.zmap.specs.declared.fault.Fault.TheVariants as fault
@@ -7,12 +7,8 @@ use Rattle.zmap.specs.declared.grid.Grid.{Grid}
 use Rattle.cutters.specs.Making.{ball_fault, cone_fault, flat_fault}
 use Rattle.cutters.specs.declared.round.RoundTool.{RoundTool}
 use Rattle.cutters.specs.declared.round.RoundTool.TheVariants.{Flat, Cone, Ball}
-use Rattle.facets.specs.declared.facet.Facet.{Facet}
-use Rattle.facets.specs.declared.facet.Vertex.{Vertex}
 use Rattle.setups.specs.Clamps.{clamp_fault}
-use Rattle.setups.specs.Stocks.{stock_fault}
 use Rattle.setups.specs.declared.clamp.Clamp.{Clamp}
-use Rattle.setups.specs.declared.stock.Stock.{Stock}
 use Rattle.jobs.specs.declared.job.Move.{Move}
 use Rattle.jobs.specs.declared.job.Move.TheVariants.{Pose}
 
@@ -102,35 +98,6 @@ turned_of pitch ws = known (turned_in pitch ws)
 -- a height, which is not checked
 abbrev pub height_of : List ℤ → Result ℤ Fault
 height_of ws = Ok (nth ws 0)
-
--- the most facets of a job with these heights: none beside heights
-abbrev pub most_facets : List ℤ → ℕ
-most_facets hs = cond (length hs == 0) 1500 0
-
--- x, y and z of a vertex, the word x at the place i
-abbrev pub vertex_in : List ℤ → ℕ → Vertex
-vertex_in ws i = record { x = nth ws i; y = nth ws (i + 1); z = nth ws (i + 2) }
-
--- three vertices
-abbrev pub facet_in : List ℤ → Facet
-facet_in ws = record { a = vertex_in ws 0; b = vertex_in ws 3; c = vertex_in ws 6 }
-
--- a facet, which is not checked
-abbrev pub facet_of : List ℤ → Result Facet Fault
-facet_of ws = Ok (facet_in ws)
-
--- a stock in plain numbers: its height in µm
-abbrev pub thickness : Stock → ℤ
-thickness s = pos s.microns
-
--- the stock of an allowance, where there is one
-abbrev pub stocks : Option Stock → List ℤ
-stocks None = []
-stocks (Some s) = thickness s ∷ []
-
--- the stock, where nothing refuses it
-abbrev pub stock_of : List ℤ → Result ℤ Fault
-stock_of ws = refusing (stock_fault (nth ws 0)) (Ok (nth ws 0))
 
 -- first column, first row, last column, last row and height
 abbrev pub clamp_in : List ℤ → Clamp

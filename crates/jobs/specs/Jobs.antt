@@ -1,41 +1,37 @@
 -- The whole job: what is read of the bytes, in plain numbers. Assumes nothing.
 use Rattle.std.specs.Prelude.{ℕ, ◌*◌, cond, List, length, ℤ, Ok, Err, vec_items, Result, ◌==◌, nat_le}
 use Rattle.zmap.specs.declared.fault.Fault.TheVariants as fault
-use Rattle.facets.specs.declared.facet.Facet.{Facet}
 use Rattle.setups.specs.declared.clamp.Clamp.{Clamp}
 use Rattle.jobs.specs.declared.bad.Bad.{Bad}
 use Rattle.jobs.specs.declared.job.Job.{Job}
 use Rattle.jobs.specs.declared.job.Move.{Move}
 use Rattle.jobs.specs.Parsers.{Reads, then}
-use Rattle.jobs.specs.Items.{Extent, extent, Turned, turned, stocks}
-use Rattle.jobs.specs.Sections.{grid_section, cutter_section, heights_section, facets_section, allowance_section, clamps_section, moves_section}
+use Rattle.jobs.specs.Items.{Extent, extent, Turned, turned}
+use Rattle.jobs.specs.Sections.{count, grid_section, cutter_section, heights_section, clamps_section, moves_section}
 
--- what a job says, in plain numbers: a list of records for each section from the third on
+-- what a job says, in plain numbers
 pub record Reading : Type 0 where
   pub grid : Extent
   pub cutter : Turned
   pub heights : List ℤ
-  pub facets : List Facet
-  pub allowance : List ℤ
   pub clamps : List Clamp
   pub moves : List Move
 
 -- what the job says
 abbrev pub told : Job → Reading
-told j =
-    record { grid = extent j.grid; cutter = turned j.cutter; heights = vec_items j.heights; facets = vec_items j.facets; allowance = stocks j.allowance; clamps = vec_items j.clamps; moves = vec_items j.moves }
+told j = record { grid = extent j.grid; cutter = turned j.cutter; heights = vec_items j.heights; clamps = vec_items j.clamps; moves = vec_items j.moves }
 
--- the seven sections in their order
+-- the seven sections in their order; facets and allowance have no records
 unfoldable pub sections : List ℕ → Reads Reading Bad
 sections bs =
     then (grid_section bs) (λ g r1.
     then (cutter_section g.pitch r1) (λ t r2.
     then (heights_section (g.columns * g.rows) r2) (λ hs r3.
-    then (facets_section hs r3) (λ fs r4.
-    then (allowance_section r4) (λ ss r5.
+    then (count 4 0 0 r3) (λ none r4.
+    then (count 5 0 0 r4) (λ none r5.
     then (clamps_section g.columns g.rows r5) (λ ks r6.
     then (moves_section r6) (λ ms r7.
-    Ok (record { grid = g; cutter = t; heights = hs; facets = fs; allowance = ss; clamps = ks; moves = ms }, r7))))))))
+    Ok (record { grid = g; cutter = t; heights = hs; clamps = ks; moves = ms }, r7))))))))
 
 -- what was read, where no bytes are left
 abbrev pub ended : Reads Reading Bad → Result Reading Bad

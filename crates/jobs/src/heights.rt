@@ -28,7 +28,7 @@ impl Kind for Heights {
     }
 }
 
-// No heights, or as many as the map has samples.
+// As many heights as the map has samples.
 pub(crate) fn heights_section(
     input: &mut Reader<'_>,
     samples: usize,
@@ -38,13 +38,6 @@ pub(crate) fn heights_section(
     requires room { samples ≤ vec_capacity into }
     ensures { Gives vec_items result input.new.rest.now (heights_section samples input.old.rest.now) }
 {
-    let n = count(input, 3, 0, samples)?;
-    if n != 0 && n != samples {
-        return Err(Bad {
-            fault: Fault::Count,
-            section: 3,
-            at: 0,
-        });
-    }
+    let n = count(input, 3, samples, samples)?;
     run(&Heights, input, 3, n, into)
 }

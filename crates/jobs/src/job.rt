@@ -1,7 +1,6 @@
 // What a job holds.
 use cutters::RoundTool;
-use facets::Facet;
-use setups::{Clamp, Stock};
+use setups::Clamp;
 use zmap::Grid;
 
 // A move as it is asked for, in plain numbers.
@@ -11,15 +10,12 @@ pub enum Move {
     Pose { column: i32, row: i32, tip: i32 },
 }
 
-// A grid, a cutter of its pitch, no heights or one for each sample in row order, the facets, the stock of an allowance where there is one,
-// and the clamps and moves; facets, clamps and moves are in the order of the bytes.
+// A grid, a cutter of its pitch, a height for each sample in row order, and the clamps and moves in the order of the bytes.
 #[derive(Drop)]
 pub struct Job {
     pub grid: Grid,
     pub cutter: RoundTool,
     pub heights: Vec<i32>,
-    pub facets: Vec<Facet>,
-    pub allowance: Option<Stock>,
     pub clamps: Vec<Clamp>,
     pub moves: Vec<Move>,
 }

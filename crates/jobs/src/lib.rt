@@ -1,12 +1,10 @@
 // Jobs: what a job holds, the memory for the largest one, and the reader of its bytes.
 #![tactic(auto)]
 
-mod allowance;
 mod bad;
 mod clamps;
 mod count;
 mod cutter;
-mod drawing;
 mod grid;
 mod heights;
 mod job;

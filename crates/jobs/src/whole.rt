@@ -4,10 +4,9 @@ ghost use Rattle.jobs.specs.Parsers.{Gives};
 ghost use Rattle.jobs.specs.Jobs.{told, sections, parse};
 ghost use Rattle.jobs.specs.Encodings.{Decodes};
 
-use crate::allowance::allowance_section;
 use crate::clamps::clamps_section;
+use crate::count::count;
 use crate::cutter::cutter_section;
-use crate::drawing::facets_section;
 use crate::grid::grid_section;
 use crate::heights::heights_section;
 use crate::moves::moves_section;
@@ -48,23 +47,20 @@ fn all_sections(store: Store, input: &mut Reader<'_>) -> Result<Job, Bad>
 {
     let Store {
         heights,
-        facets,
         clamps,
         moves,
     } = store;
     let grid = grid_section(input)?;
     let cutter = cutter_section(input, grid.pitch)?;
     let heights = heights_section(input, grid.samples(), heights)?;
-    let facets = facets_section(input, &heights, facets)?;
-    let allowance = allowance_section(input)?;
+    count(input, 4, 0, 0)?;
+    count(input, 5, 0, 0)?;
     let clamps = clamps_section(input, grid, clamps)?;
     let moves = moves_section(input, moves)?;
     Ok(Job {
         grid,
         cutter,
         heights,
-        facets,
-        allowance,
         clamps,
         moves,
     })

@@ -11,8 +11,8 @@ use Rattle.zmap.specs.declared.grid.Grid.{Grid}
 use Rattle.zmap.specs.declared.node.Node.{Node}
 use Rattle.zmap.specs.declared.node.Offset.{Offset}
 use Rattle.zmap.specs.declared.sample.Sample.{Sample}
-use Rattle.cutters.specs.Profiles.{Lawful, Profile}
-use Rattle.rings.specs.Rings.{Near, Ring}
+use Rattle.cutters.specs.Profiles.{Lawful, Near, Profile}
+use Rattle.cutters.specs.Rings.{Ring}
 use Rattle.milling.specs.Cuts.{Contacts, First, Only, Surface, Under}
 use Rattle.milling.specs.declared.poses.Pose.{Pose}
 use Rattle.milling.specs.Scans.{InvadedAt, MetAt, Stood, is_past}

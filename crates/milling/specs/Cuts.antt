@@ -8,7 +8,7 @@ use Rattle.zmap.specs.declared.grid.Grid.{Grid}
 use Rattle.zmap.specs.declared.node.Node.{Node}
 use Rattle.zmap.specs.declared.sample.Sample.{Sample}
 use Rattle.cutters.specs.Profiles.{Profile, Covers}
-use Rattle.rings.specs.Rings.{Before}
+use Rattle.cutters.specs.Rings.{Before}
 use Rattle.milling.specs.declared.poses.Pose.{Pose}
 
 -- a height and a class at each node: what a guard stands for

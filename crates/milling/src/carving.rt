@@ -8,8 +8,7 @@ ghost use Rattle.milling.specs.Losses.{fall, fallen, summed};
 
 use crate::covering::{covered, underside};
 use crate::poses::Pose;
-use cutters::Cutter;
-use rings::offsets;
+use cutters::{Cutter, offsets};
 use zmap::{Grid, Node};
 
 // How many samples were lowered, and the sum of what they lost.

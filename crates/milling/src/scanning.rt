@@ -7,8 +7,7 @@ ghost use Rattle.milling.specs.Scans.{Here, InvadedAt, MetAt};
 
 use crate::covering::{covered, told, underside};
 use crate::poses::Pose;
-use cutters::Cutter;
-use rings::offsets;
+use cutters::{Cutter, offsets};
 use zmap::{Class, Contact, Field, Grid, Node, Offset, greater};
 
 // A sample where the underside stands below the guard, and its class.

@@ -5,14 +5,12 @@ ghost use Rattle.jobs.specs.Jobs.{told};
 ghost use Rattle.setups.specs.Tables.{clamps_of};
 ghost use Rattle.plan.specs.Guards.{Fresh};
 
-use crate::part;
-use fields::Survey;
+use fields::Raster;
 use jobs::{Job, Move, Store, read};
 use lines::Line;
 use milling::pose;
 use setups::{Clamp, OpenSetup};
-use zmap::heights::FLOOR;
-use zmap::{Class, Field, Sample};
+use zmap::Field;
 
 // Prints what each move of the job did, or why the bytes are no job.
 pub(crate) fn print(rt: &HostRuntime, store: Store, bytes: &[u8]) -> anyhow::Result<()> {
@@ -33,15 +31,9 @@ pub(crate) fn print(rt: &HostRuntime, store: Store, bytes: &[u8]) -> anyhow::Res
 fn carry_out(rt: &HostRuntime, job: &Job) -> anyhow::Result<()>
     requires { Allowed (told job.now) }
 {
-    let blank = Sample {
-        height: FLOOR,
-        class: Class::Part,
-    };
-    let mut samples = vec![in rt.alloc(); blank; job.grid.samples()]?;
-    part::survey(job, samples.as_mut_slice());
-    let part = Survey {
+    let part = Raster {
         grid: job.grid,
-        samples: samples.as_slice(),
+        heights: job.heights.as_slice(),
     };
     let mut setup = OpenSetup::new(part);
     add_all(&mut setup, job.clamps.as_slice());

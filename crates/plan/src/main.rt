@@ -2,7 +2,6 @@
 #![tactic(auto)]
 
 mod job;
-mod part;
 
 use std::io::Read;
 

@@ -36,7 +36,7 @@ unfolding facet_at corner_of height_at plane_at swept mean
 falls = refl
 
 piles : setup_sample (clamp ∷ []) corner (stocked_sample 50 level_part) ≡ piled
-unfolding layered
+unfolding layered setup_sample
 piles = refl
 
 pub plates : Plates

@@ -1,18 +1,17 @@
 -- The height under clamps is the greatest of the height below and of the clamps over the sample. Assumes nothing.
-use Rattle.std.proofs.Common.{◌≡◌, true, false, ◌⊎◌, List, [], ◌∷◌, ℤ, ◌≤ℤ◌, sym, refl, ap, ◌∙◌, subst, inl, inr, ⊎_elim, arith}
+use Rattle.std.proofs.Common.{◌≡◌, zero, true, false, ◌⊎◌, List, [], ◌∷◌, ℤ, ◌≤ℤ◌, sym, refl, ap, ◌∙◌, subst, inl, inr, ⊎_elim, arith}
 use lib.Signed.{≤ℤ_refl}
 use Rattle.std.proofs.lemmas.Int.{ints, clamps}
 use Rattle.std.proofs.lemmas.Bool.{both_ways, cases_Bool, cond-true, cond-false}
 use Rattle.std.specs.Int.{int_max}
-use Rattle.zmap.proofs.Members.{has_cases, has_first, has_more, has_none}
+use Rattle.zmap.proofs.Members.{has_cases, has_more, has_none}
 use Rattle.zmap.specs.declared.class.Class.TheVariants.{Fixture}
 use Rattle.zmap.specs.declared.node.Node.{Node}
 use Rattle.zmap.specs.declared.sample.Sample.{Sample}
 use Rattle.setups.specs.declared.clamp.Clamp.{Clamp}
-use Rattle.setups.specs.LayerHeight.{layered_height}
-use Rattle.setups.specs.Layers.{layered}
-use Rattle.setups.specs.Surfaces.{Stands, setup_sample}
-use Rattle.setups.proofs.Layering.{classed}
+use Rattle.setups.specs.Surfaces.{Stands, same_height, setup_sample}
+use Rattle.setups.specs.LayerHeight.{same_told}
+use Rattle.setups.proofs.Surfacing.{same_yes}
 use Rattle.setups.specs.Tables.{Tops, is_over, lifted, raised_by}
 
 -- what one clamp makes of the height z
@@ -53,15 +52,25 @@ tops n z (k ∷ ks) =
           (has_cases k x ks has);
       reached =
           ⊎_elim
-          (λ e. ⊎_elim (λ m. inl (e ∙ m)) (λ m. inr (k, has_first k ks, m.0, e ∙ m.1)) one.reached)
+          (λ e. ⊎_elim (λ m. inl (e ∙ m)) (λ m. inr (k, (zero, omega arith, λ _. refl), m.0, e ∙ m.1)) one.reached)
           (λ r. inr (r.0, has_more k r.0 ks r.1, r.2, r.3))
           rest.reached;
     }
 
-pub stands_as : {ks : List Clamp} {n : Node} {s t : Sample} → t ≡ setup_sample ks n s → Stands ks n s t
-stands_as {ks} {n} {s} e =
-    subst (Stands ks n s) (sym e) (record { height = subst (Tops n s.height ks) (sym (layered_height Fixture s _)) (tops n s.height ks); class = classed Fixture s _ })
+pub stands : (ks : List Clamp) (n : Node) (s : Sample) → Stands ks n s (setup_sample ks n s)
+unfolding setup_sample
+stands ks n s =
+    let r = raised_by n s.height ks in
+    let higher : Sample = record { height = r; class = Fixture } in
+    ⊎_elim
+    (λ (t : same_height r s.height ≡ true).
+    let e = cond-true (same_height r s.height) s higher t in
+    let same : r ≡ s.height = same_told r s.height t in
+    rw e (record { height = subst (Tops n s.height ks) same (tops n s.height ks); below = λ _. refl; fixture = λ ne. absurd (ne refl) }))
+    (λ (f : same_height r s.height ≡ false).
+    let e = cond-false (same_height r s.height) s higher f in
+    rw e (record { height = tops n s.height ks; below = λ m. absurd (both_ways (same_height r s.height) f (same_yes r s.height m)); fixture = λ _. refl }))
+    (cases_Bool (same_height r s.height))
 
--- the sample s below, which is what the field tells, at the height h that the clamps give
-pub under_clamps : (ks : List Clamp) (n : Node) {s s' t : Sample} {h : ℤ} → s ≡ s' → h ≡ raised_by n s.height ks → t ≡ layered Fixture s h → t ≡ setup_sample ks n s'
-under_clamps ks n {s} same is e = e ∙ ap (layered Fixture s) is ∙ ap (setup_sample ks n) same
+pub stands_as : {ks : List Clamp} {n : Node} {s t : Sample} → t ≡ setup_sample ks n s → Stands ks n s t
+stands_as {ks} {n} {s} e = subst (Stands ks n s) (sym e) (stands ks n s)

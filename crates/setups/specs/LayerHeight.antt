@@ -6,7 +6,8 @@ use Rattle.std.proofs.lemmas.Bool.{and_parts, cond_both}
 use Rattle.zmap.proofs.HeightTest.{le_tested}
 use Rattle.zmap.specs.declared.class.Class.{Class}
 use Rattle.zmap.specs.declared.sample.Sample.{Sample}
-use Rattle.setups.specs.Layers.{layered, same_height}
+use Rattle.setups.specs.Layers.{layered}
+use Rattle.setups.specs.Surfaces.{same_height}
 
 pub same_told : (a b : ℤ) → same_height a b ≡ true → a ≡ b
 same_told a b e = let t = and_parts (int_le a b) (int_le b a) e in let up = le_tested a b t.0 in let down = le_tested b a t.1 in omega (arith, ints)

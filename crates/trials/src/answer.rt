@@ -12,12 +12,16 @@ pub(crate) enum Answer {
     Refused(Fault),
     // the number that was given
     Numbered(usize),
+    // what stands there, in µm
+    Stands(i32),
     // a height and a class
     Told(Sample),
     // there is nothing here
     Nothing,
     // a line
     Said(Line),
+    // a line, and that it left the block as it was
+    Kept(Line),
     // no case of the topic
     Unasked,
 }
@@ -38,6 +42,14 @@ pub(crate) fn sampled(sample: Option<Sample>) -> Answer {
     }
 }
 
+// What stands at a place of a block.
+pub(crate) fn entry(block: &[i32], place: i32) -> Answer {
+    match block.get(index(place)) {
+        Some(z) => Answer::Stands(*z),
+        None => Answer::Nothing,
+    }
+}
+
 // The number as an index; a negative one stands for the greatest index.
 pub(crate) fn index(n: i32) -> usize {
     if n < 0 {
@@ -53,9 +65,11 @@ impl Answer {
             Answer::Taken => "taken".to_string(heap),
             Answer::Refused(fault) => fault.parts().number.to_string(heap),
             Answer::Numbered(n) => n.to_string(heap),
+            Answer::Stands(z) => z.to_string(heap),
             Answer::Told(s) => sample_text(heap, s),
             Answer::Nothing => "nothing".to_string(heap),
             Answer::Said(line) => line.text(heap),
+            Answer::Kept(line) => kept_text(heap, line),
             Answer::Unasked => "unasked".to_string(heap),
         }
     }
@@ -70,4 +84,11 @@ fn sample_text(heap: Global, s: Sample) -> Result<String, AllocError> {
         Class::Fixture => "fixture",
     };
     format!(in heap; "{height} {class}")
+}
+
+// A line and that the block is as it was.
+fn kept_text(heap: Global, line: Line) -> Result<String, AllocError> {
+    let mut text = line.text(heap)?;
+    text.push_str(", kept")?;
+    Ok(text)
 }

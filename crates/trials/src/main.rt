@@ -1,14 +1,18 @@
-// The trials: grids, cutters, fields and layers at their limits from both sides, each with its answer.
+// The trials: every limit from both sides, and one stored job from standard input, each with its answer.
 #![tactic(auto)]
 
 mod answer;
 mod clamps;
+mod faults;
 mod flats;
 mod grids;
+mod poses;
 mod rasters;
-mod stocks;
+mod reading;
+mod stored;
 mod surfaces;
 mod topic;
+mod turns;
 
 use topic::{Topic, all};
 
@@ -16,10 +20,14 @@ fn main(rt: HostRuntime) -> anyhow::Result<()> {
     run(&rt)
 }
 
-// Prints the answers of every topic.
+// Prints the answers of every topic, and the lines of the stored job last.
 fn run(rt: &HostRuntime) -> anyhow::Result<()> {
+    faults::print(rt)?;
     makings(rt)?;
-    guards(rt)
+    guards(rt)?;
+    cuts(rt)?;
+    bytes(rt)?;
+    stored::print(rt)
 }
 
 // Grids, cutters and the lengths and heights of rasters.
@@ -32,12 +40,29 @@ fn makings(rt: &HostRuntime) -> anyhow::Result<()> {
     all(rt, "raster", Topic::Raster, &rasters::LONG)
 }
 
-// Samples, allowances and clamps.
+// Samples, clamps and new blocks.
 fn guards(rt: &HostRuntime) -> anyhow::Result<()> {
     all(rt, "sample", Topic::Raster, &rasters::NODES)?;
-    all(rt, "stock", Topic::Stock, &stocks::STOCKS)?;
-    all(rt, "layer", Topic::Stock, &stocks::LAYERS)?;
     all(rt, "clamp", Topic::Clamp, &clamps::CLAMPS)?;
     all(rt, "raise", Topic::Clamp, &clamps::RAISES)?;
-    all(rt, "surface", Topic::Surface, &surfaces::SURFACES)
+    all(rt, "surface", Topic::Surface, &surfaces::SURFACES)?;
+    all(rt, "new", Topic::Block, &poses::LENGTHS)?;
+    all(rt, "renewed", Topic::Block, &poses::PLACES)
+}
+
+// Poses.
+fn cuts(rt: &HostRuntime) -> anyhow::Result<()> {
+    all(rt, "pose", Topic::Pose, &poses::FORMS)?;
+    all(rt, "pose", Topic::Pose, &poses::TIPS)?;
+    all(rt, "single", Topic::Pose, &poses::ENDS)?;
+    all(rt, "turn", Topic::Turn, &turns::TURNS)?;
+    all(rt, "place", Topic::Turn, &turns::PLACES)
+}
+
+// The bytes of jobs.
+fn bytes(rt: &HostRuntime) -> anyhow::Result<()> {
+    all(rt, "bytes", Topic::Job, &reading::lengths::LENGTHS)?;
+    all(rt, "word", Topic::Job, &reading::changes::ONE)?;
+    all(rt, "words", Topic::Job, &reading::changes::THREE)?;
+    all(rt, "amounts", Topic::Job, &reading::amounts::AMOUNTS)
 }

@@ -1,6 +1,6 @@
 // What is tried, and how it is printed: for each case its numbers and the answer.
 use crate::answer::Answer;
-use crate::{clamps, flats, grids, rasters, stocks, surfaces};
+use crate::{clamps, flats, grids, poses, rasters, reading, surfaces, turns};
 use std::alloc::{AllocError, Global};
 
 // The topics; each has a module that answers the numbers of its cases.
@@ -9,9 +9,12 @@ pub(crate) enum Topic {
     Grid,
     Flat,
     Raster,
-    Stock,
     Clamp,
     Surface,
+    Block,
+    Pose,
+    Turn,
+    Job,
 }
 
 // Prints each case of a topic under a name.
@@ -34,9 +37,12 @@ fn text(heap: Global, topic: Topic, numbers: &[i32]) -> Result<String, AllocErro
         Topic::Grid => grids::answer(numbers),
         Topic::Flat => flats::answer(numbers),
         Topic::Raster => rasters::answer(numbers),
-        Topic::Stock => stocks::answer(numbers),
         Topic::Clamp => clamps::answer(numbers),
         Topic::Surface => surfaces::answer(numbers),
+        Topic::Block => poses::renewed(numbers),
+        Topic::Pose => poses::answer(numbers),
+        Topic::Turn => turns::answer(numbers),
+        Topic::Job => reading::answer(heap, numbers)?,
     };
     answer.text(heap)
 }

@@ -1,7 +1,7 @@
 // Where an entry stands, and whether it may.
 ghost use Rattle.std.specs.Prelude.{◌≡◌, ◌<◌, true, false, pos, IfOk, Some, None, MatchOption, MatchResult};
 ghost use Rattle.cutters.specs.Entries.{Entry, index, is_close, entry_fault};
-ghost use Rattle.rings.specs.Rings.{Near};
+ghost use Rattle.cutters.specs.Profiles.{Near};
 
 use zmap::Fault;
 

@@ -6,12 +6,10 @@ impl Store {
     // An empty store, or the want of memory for it.
     pub fn new(heap: Global) -> Result<Store, AllocError> {
         let heights = Vec::with_capacity(heap, 4096)?;
-        let facets = Vec::with_capacity(heap, 1500)?;
         let clamps = Vec::with_capacity(heap, 16)?;
         let moves = Vec::with_capacity(heap, 2340)?;
         Ok(Store {
             heights,
-            facets,
             clamps,
             moves,
         })

@@ -6,7 +6,6 @@ ghost use Rattle.setups.specs.Surfaces.{Stands, guard_surface, setup_sample};
 ghost use Rattle.setups.specs.Tables.{clamps_of};
 
 use crate::Setup;
-use crate::layer::layered;
 use zmap::{Class, Field, Grid, Node, Sample};
 
 impl<F: Field> Field for Setup<F> {
@@ -28,6 +27,12 @@ impl<F: Field> Field for Setup<F> {
             return None;
         };
         let height = self.clamps.over(n, below.height);
-        Some(layered(Class::Fixture, below, height))
+        if height == below.height {
+            return Some(below);
+        }
+        Some(Sample {
+            height,
+            class: Class::Fixture,
+        })
     }
 }

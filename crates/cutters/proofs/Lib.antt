@@ -1,0 +1,2 @@
+pub mod RingTest
+pub mod RingRule

@@ -1,7 +1,0 @@
--- The table passes the test.
-use Rattle.std.proofs.Common.{refl}
-use Rattle.rings.proofs.RingRule.{ring_rule}
-use Rattle.rings.proofs.ring.offsets.Goals as goal
-
-pub returns : goal.returns
-returns c = ring_rule _ refl

@@ -1,0 +1,171 @@
+// New blocks of right and wrong lengths, and poses at the limits of every check, each on a block of its own.
+use crate::answer::{Answer, entry, index, told};
+use crate::clamps::clamp;
+use cutters::Flat;
+use fields::Raster;
+use lines::Line;
+use milling::pose;
+use setups::{OpenSetup, Setup};
+use zmap::{Field, Grid};
+
+// The lengths of blocks for a map of six samples.
+pub(crate) const LENGTHS: [[i32; 1]; 5] = [[0], [1], [5], [6], [7]];
+
+// A length and a place.
+pub(crate) const PLACES: [[i32; 2]; 6] = [[5, 0], [5, 4], [6, 0], [6, 5], [7, 0], [7, 6]];
+
+// The cutter's pitch, the block's length, and column, row and tip: other pitches and lengths, then nodes off the map and in its corners.
+pub(crate) const FORMS: [[i32; 5]; 26] = [
+    [99, 15, 2, 1, 500000],
+    [101, 15, 2, 1, 500000],
+    [1000, 15, 2, 1, 500000],
+    [100, 0, 2, 1, 500000],
+    [100, 14, 2, 1, 500000],
+    [100, 15, 2, 1, 500000],
+    [100, 16, 2, 1, 500000],
+    [100, 15, -1, 0, 500000],
+    [100, 15, 5, 0, 500000],
+    [100, 15, 0, -1, 500000],
+    [100, 15, 0, 3, 500000],
+    [100, 15, i32::MIN, 0, 500000],
+    [100, 15, i32::MAX, 0, 500000],
+    [100, 15, 0, i32::MIN, 500000],
+    [100, 15, 0, i32::MAX, 500000],
+    [100, 15, 0, 0, 200],
+    [100, 15, 4, 0, 200],
+    [100, 15, 0, 2, 200],
+    [100, 15, 4, 2, 200],
+    [101, 14, -1, 3, 500001],
+    [100, 14, -1, 3, 500001],
+    [100, 15, -1, 3, 500001],
+    [100, 15, 2, 1, 500001],
+    [100, 15, 2, 1, -500001],
+    [100, 15, 2, 1, i32::MIN],
+    [100, 15, 2, 1, i32::MAX],
+];
+
+// Tips one below the guard and at it, where part and fixtures are met and the order of the offsets tells.
+pub(crate) const TIPS: [[i32; 5]; 22] = [
+    [100, 15, 2, 1, -500000],
+    [100, 15, 2, 1, -1],
+    [100, 15, 2, 1, 0],
+    [100, 15, 2, 1, 49],
+    [100, 15, 2, 1, 50],
+    [100, 15, 3, 0, 99],
+    [100, 15, 3, 0, 100],
+    [100, 15, 3, 0, 101],
+    [100, 15, 2, 0, 99],
+    [100, 15, 2, 0, 100],
+    [100, 15, 1, 1, 49],
+    [100, 15, 1, 1, 50],
+    [100, 15, 1, 1, 99],
+    [100, 15, 1, 1, 100],
+    [100, 15, 0, 1, -1],
+    [100, 15, 0, 1, 49],
+    [100, 15, 0, 1, 50],
+    [100, 15, 0, 1, 100],
+    [100, 15, 3, 1, 0],
+    [100, 15, 4, 1, -1],
+    [100, 15, 4, 1, 0],
+    [100, 15, 4, 1, 399999],
+];
+
+// The height of one sample, and the tip over it, at the ends of the range.
+pub(crate) const ENDS: [[i32; 2]; 8] = [
+    [-500000, -500001],
+    [-500000, -500000],
+    [-500000, 500000],
+    [-500000, 500001],
+    [500000, -500001],
+    [500000, 499999],
+    [500000, 500000],
+    [500000, 500001],
+];
+
+// A block with another height at each place.
+const MARKED: [i32; 16] = [
+    400000, 400001, 400002, 400003, 400004, 400005, 400006, 400007, 400008, 400009, 400010, 400011,
+    400012, 400013, 400014, 400015,
+];
+
+// Whether a block of the length is renewed, or what then stands at a place.
+pub(crate) fn renewed(numbers: &[i32]) -> Answer {
+    let Ok(grid) = Grid::new(3, 2, 100) else {
+        return Answer::Unasked;
+    };
+    let mut marked = MARKED;
+    match numbers {
+        [long] => told(milling::new(&grid, cut(&mut marked, *long))),
+        [long, place] => {
+            let _ = milling::new(&grid, cut(&mut marked, *long));
+            entry(&marked, *place)
+        }
+        _ => Answer::Unasked,
+    }
+}
+
+// The block cut to the length.
+fn cut(block: &mut [i32], long: i32) -> &mut [i32] {
+    let long = index(long);
+    if long > block.len() {
+        return block;
+    }
+    &mut block[0..long]
+}
+
+// The line of a pose over a part with clamps above it on two sides and one level with it, or over one sample.
+pub(crate) fn answer(numbers: &[i32]) -> Answer {
+    match numbers {
+        [pitch, long, column, row, tip] => clamped(*pitch, *long, *column, *row, *tip),
+        [height, tip] => single(*height, *tip),
+        _ => Answer::Unasked,
+    }
+}
+
+// The line of a pose over fifteen samples and three clamps.
+fn clamped(pitch: i32, long: i32, column: i32, row: i32, tip: i32) -> Answer {
+    let Ok(grid) = Grid::new(5, 3, 100) else {
+        return Answer::Unasked;
+    };
+    let part = Raster {
+        grid,
+        heights: &[0, 0, 0, 100, 0, 0, 50, 0, 0, 0, 0, 0, 0, 0, -20],
+    };
+    let mut setup = OpenSetup::new(part);
+    let _ = setup.add(clamp([0, 2, 1, 2, 100]));
+    let _ = setup.add(clamp([1, 0, 1, 0, 100]));
+    let _ = setup.add(clamp([4, 0, 4, 0, 0]));
+    posed(&setup.lock(), pitch, long, column, row, tip)
+}
+
+// The line of a pose over one sample of the height.
+fn single(height: i32, tip: i32) -> Answer {
+    let Ok(grid) = Grid::new(1, 1, 100) else {
+        return Answer::Unasked;
+    };
+    let part = Raster {
+        grid,
+        heights: &[height],
+    };
+    posed(&OpenSetup::new(part).lock(), 100, 1, 0, 0, tip)
+}
+
+// The line of a pose of a cutter of radius 100 over a guard, on a marked block of the length.
+fn posed<F: Field>(
+    guard: &Setup<F>,
+    pitch: i32,
+    long: i32,
+    column: i32,
+    row: i32,
+    tip: i32,
+) -> Answer {
+    let Ok(cutter) = Flat::new(pitch, 100) else {
+        return Answer::Unasked;
+    };
+    let mut marked = MARKED;
+    let answer = pose(guard, &cutter, cut(&mut marked, long), column, row, tip);
+    if marked == MARKED {
+        return Answer::Kept(Line::of_move(1, answer));
+    }
+    Answer::Said(Line::of_move(1, answer))
+}
