@@ -1,4 +1,4 @@
-// Facets: triangles in space, the height of one over a point, and a list of them as a field.
+// Facets: triangles in space, and the height of one over a point.
 #![tactic(auto)]
 
 mod corner;

@@ -14,7 +14,8 @@ use Rattle.milling.specs.Cuts.{Carved, Only, Under}
 use Rattle.milling.specs.Losses.{fall, fallen, summed}
 use Rattle.milling.specs.Scans.{Bare, Stood}
 use Rattle.milling.specs.declared.poses.Pose.{Pose}
-use Rattle.milling.proofs.Places.{place_below, relief_set, set_below}
+use Rattle.zmap.proofs.Places.{place_below}
+use Rattle.milling.proofs.Places.{relief_set, set_below}
 use Rattle.milling.proofs.Rounds.{Each, each_all, each_more, each_none, each_weaker, here_bare, here_stood, offset_unique}
 use Rattle.milling.proofs.Seen.{under_stood}
 use Rattle.milling.proofs.Sums.{fall_min, fall_same, fallen_min, fallen_same, summed_same, summed_set}

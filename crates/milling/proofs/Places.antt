@@ -1,22 +1,12 @@
--- Places in row order, and blocks read by node as one place is written. Assumes nothing.
-use Rattle.std.proofs.Common.{◌≡◌, ℕ, ◌/◌, ◌%◌, ◌<◌, ◌⊎◌, List, length, get_or, set, ℤ, pos, ◌≤ℤ◌, sym, ap, ◌∙◌, subst, inl, inr, ⊎_elim, arith}
+-- Blocks read by node, as one place is written. Assumes nothing.
+use Rattle.std.proofs.Common.{◌≡◌, ℕ, ◌<◌, ◌⊎◌, List, length, get_or, set, ℤ, pos, ◌≤ℤ◌, sym, ap, ◌∙◌, subst, inl, inr, ⊎_elim, arith}
 use lib.Signed.{≤ℤ_refl}
-use Rattle.std.proofs.lemmas.Nat.{div-mul-add, mod-mul-add, mul-add-lt}
 use Rattle.std.proofs.lemmas.List.{get_or-set_same, get_or-set_other}
 use Rattle.std.proofs.lemmas.Bool.{cases_eq}
 use Rattle.zmap.specs.Maps.{On, place, relief, size}
 use Rattle.zmap.specs.declared.grid.Grid.{Grid}
 use Rattle.zmap.specs.declared.node.Node.{Node}
-use Rattle.milling.proofs.Rounds.{same_node}
-
-pub place_below : (g : Grid) (s : Node) → On g s → place g s < size g
-place_below g s on = omega (arith, mul-add-lt s.row g.columns s.column g.rows on.1 on.0)
-
-pub place_unique : (g : Grid) (s t : Node) → On g s → On g t → place g s ≡ place g t → s ≡ t
-place_unique g s t on on' e =
-    same_node
-    (sym (mod-mul-add s.row g.columns s.column on.0) ∙ ap (λ i. i % g.columns) e ∙ mod-mul-add t.row g.columns t.column on'.0)
-    (sym (div-mul-add s.row g.columns s.column on.0) ∙ ap (λ i. i / g.columns) e ∙ div-mul-add t.row g.columns t.column on'.0)
+use Rattle.zmap.proofs.Places.{place_below, place_unique}
 
 -- after a write at s: the value there, and every other node as before
 pub relief_set : (g : Grid) (b : List ℤ) (s t : Node) (v : ℤ) → length b ≡ size g → On g s → On g t →

@@ -4,6 +4,7 @@ use Rattle.std.proofs.lemmas.List.{get_or_default}
 use Rattle.std.proofs.lemmas.Int.{ints}
 use Rattle.std.proofs.lemmas.Bool.{cases_order}
 use Rattle.zmap.specs.Maps.{At}
+use Rattle.zmap.proofs.Places.{same_node}
 use Rattle.zmap.specs.declared.grid.Grid.{Grid}
 use Rattle.zmap.specs.declared.node.Node.{Node}
 use Rattle.zmap.specs.declared.node.Offset.{Offset}
@@ -15,9 +16,6 @@ use Rattle.milling.specs.declared.poses.Pose.{Pose}
 use Rattle.milling.specs.Scans.{Bare, Here, Stood}
 
 -- ---- an offset, a node and a sample: two of them give the third
-
-pub same_node : {a b c d : ℕ} → a ≡ c → b ≡ d → ◌≡◌ {A = Node} (record { column = a; row = b }) (record { column = c; row = d })
-same_node e f = cc
 
 same_offset : {a b c d : ℤ} → a ≡ c → b ≡ d → ◌≡◌ {A = Offset} (record { dx = a; dy = b }) (record { dx = c; dy = d })
 same_offset e f = cc

@@ -1,11 +1,17 @@
 -- The sample that a layer tells, by the test of its height. Assumes nothing.
-use Rattle.std.proofs.Common.{◌≡◌, ℤ, sym, refl}
+use Rattle.std.proofs.Common.{◌≡◌, true, false, ℤ, sym, refl, arith}
+use Rattle.std.proofs.lemmas.Int.{ints}
 use Rattle.std.proofs.lemmas.Bool.{both_ways, cond_both, cond-true, cond-false}
 use Rattle.zmap.specs.declared.class.Class.{Class}
 use Rattle.zmap.specs.declared.sample.Sample.{Sample}
 use Rattle.setups.specs.Layers.{Classed, layered}
 use Rattle.setups.specs.Surfaces.{same_height}
-use Rattle.setups.proofs.Surfacing.{same_no, same_yes}
+
+same_yes : (a b : ℤ) → a ≡ b → same_height a b ≡ true
+same_yes a b e = grind (arith, ints)
+
+same_no : (a b : ℤ) → (a ≡ b → ⊥) → same_height a b ≡ false
+same_no a b ne = grind (arith, ints)
 
 pub layered_below : (k : Class) (s : Sample) (h : ℤ) → h ≡ s.height → s ≡ layered k s h
 unfolding layered

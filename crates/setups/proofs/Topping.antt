@@ -9,9 +9,9 @@ use Rattle.zmap.specs.declared.class.Class.TheVariants.{Fixture}
 use Rattle.zmap.specs.declared.node.Node.{Node}
 use Rattle.zmap.specs.declared.sample.Sample.{Sample}
 use Rattle.setups.specs.declared.clamp.Clamp.{Clamp}
-use Rattle.setups.specs.Surfaces.{Stands, same_height, setup_sample}
-use Rattle.setups.specs.LayerHeight.{same_told}
-use Rattle.setups.proofs.Surfacing.{same_yes}
+use Rattle.setups.specs.LayerHeight.{layered_height, setup_layered}
+use Rattle.setups.specs.Surfaces.{Stands, setup_sample}
+use Rattle.setups.proofs.Layering.{classed}
 use Rattle.setups.specs.Tables.{Tops, is_over, lifted, raised_by}
 
 -- what one clamp makes of the height z
@@ -58,19 +58,10 @@ tops n z (k ∷ ks) =
     }
 
 pub stands : (ks : List Clamp) (n : Node) (s : Sample) → Stands ks n s (setup_sample ks n s)
-unfolding setup_sample
 stands ks n s =
     let r = raised_by n s.height ks in
-    let higher : Sample = record { height = r; class = Fixture } in
-    ⊎_elim
-    (λ (t : same_height r s.height ≡ true).
-    let e = cond-true (same_height r s.height) s higher t in
-    let same : r ≡ s.height = same_told r s.height t in
-    rw e (record { height = subst (Tops n s.height ks) same (tops n s.height ks); below = λ _. refl; fixture = λ ne. absurd (ne refl) }))
-    (λ (f : same_height r s.height ≡ false).
-    let e = cond-false (same_height r s.height) s higher f in
-    rw e (record { height = tops n s.height ks; below = λ m. absurd (both_ways (same_height r s.height) f (same_yes r s.height m)); fixture = λ _. refl }))
-    (cases_Bool (same_height r s.height))
+    let c = classed Fixture s r in
+    subst (Stands ks n s) (setup_layered ks n s) (record { height = subst (Tops n s.height ks) (sym (layered_height Fixture s r)) (tops n s.height ks); below = c.below; fixture = c.above })
 
 pub stands_as : {ks : List Clamp} {n : Node} {s t : Sample} → t ≡ setup_sample ks n s → Stands ks n s t
 stands_as {ks} {n} {s} e = subst (Stands ks n s) (sym e) (stands ks n s)

@@ -1,6 +1,6 @@
 -- Under clamps whose heights are in range, so is every sample. Assumes nothing.
 use Rattle.std.specs.Prelude.{ℕ, suc, ◌<◌, List, [], ◌∷◌, length, take, ℤ, int_lt}
-use Rattle.std.proofs.Common.{suc-le-suc, arith}
+use Rattle.std.proofs.Common.{suc-le-suc, sym, subst, arith}
 use Rattle.std.proofs.lemmas.List.{length-take, get_or-take}
 use Rattle.std.proofs.lemmas.Bool.{cond_both}
 use Rattle.std.specs.Int.{int_max}
@@ -11,7 +11,8 @@ use Rattle.zmap.specs.declared.sample.Sample.{Sample}
 use Rattle.setups.specs.declared.clamp.Clamp.{Clamp}
 use Rattle.setups.specs.declared.table.Clamps.{Clamps}
 use Rattle.setups.specs.Clamps.{High}
-use Rattle.setups.specs.Surfaces.{same_height, setup_sample}
+use Rattle.setups.specs.LayerHeight.{layered_height, setup_layered}
+use Rattle.setups.specs.Surfaces.{setup_sample}
 use Rattle.setups.specs.Tables.{clamps_of, is_over, lifted, raised_by}
 
 high_take : (n : ℕ) (ks : List Clamp) → High ks → High (take n ks)
@@ -33,9 +34,7 @@ raised_in_range n z (k ∷ ks) h hs =
     raised_in_range n (lifted n z k) ks (lifted_in_range n z k h (hs 0 k (omega arith))) (λ i d lt. hs (suc i) d (suc-le-suc lt))
 
 pub setup_in_range : (t : Clamps) (n : Node) (s : Sample) → Height s.height → Height (setup_sample (clamps_of t) n s).height
-unfolding setup_sample
 setup_in_range t n s h =
-    let r = raised_by n s.height (clamps_of t) in
-    cond_both (same_height r s.height) s (record { height = r; class = Fixture }) (λ x. Height x.height)
-    (λ _. h)
-    (λ _. raised_in_range n s.height (clamps_of t) h (high_take t.count t.entries t.high))
+    let ks = clamps_of t in
+    let high : Height (raised_by n s.height ks) = raised_in_range n s.height ks h (high_take t.count t.entries t.high) in
+    subst (λ (x : Sample). Height x.height) (setup_layered ks n s) (subst Height (sym (layered_height Fixture s (raised_by n s.height ks))) high)

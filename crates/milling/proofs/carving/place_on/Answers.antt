@@ -1,6 +1,6 @@
 -- The place of a sample of the map lies in the block.
 use Rattle.std.proofs.Common.{refl}
-use Rattle.milling.proofs.Places.{place_below}
+use Rattle.zmap.proofs.Places.{place_below}
 use Rattle.milling.proofs.carving.place_on.Goals as goal
 
 pub returns : goal.returns
