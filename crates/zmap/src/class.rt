@@ -1,9 +1,10 @@
 // What a sample's height belongs to, and what a cut met there.
 
 mod making;
+mod wording;
 
 // What gives a sample its height.
-#[derive(Clone, Copy, PartialEq, Eq)]
+#[derive(Clone, Copy, Debug, PartialEq, Eq)]
 pub enum Class {
     Part,
     Allowance,

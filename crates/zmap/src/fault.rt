@@ -2,16 +2,17 @@
 use crate::{Class, Contact, Node};
 
 mod telling;
+mod wording;
 
 // Which end of a move a fault is about.
-#[derive(Clone, Copy)]
+#[derive(Clone, Copy, Debug)]
 pub enum End {
     Start,
     Finish,
 }
 
 // Why a call was refused; the comments give the numbers.
-#[derive(Clone, Copy)]
+#[derive(Clone, Copy, Debug)]
 pub enum Fault {
     // 1: columns of a grid not 1 to 512
     Columns,

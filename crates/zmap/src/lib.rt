@@ -15,7 +15,7 @@ pub use class::{Class, Contact};
 pub use fault::{End, Fault, Parts};
 pub use field::Field;
 pub use grid::Grid;
-pub use node::{Node, Offset};
+pub use node::{Node, Offset, Spot};
 pub use order::greater;
 pub use pitch::Pitch;
 pub use sample::Sample;

@@ -4,12 +4,12 @@ ghost use Rattle.zmap.specs.Contacts.{contact_of};
 
 use crate::{Class, Contact};
 
-impl Class {
-    // The contact of a cut that meets a sample of this class.
-    pub fn contact(self) -> Contact
-        ensures { result ≡ contact_of self }
-    {
-        match self {
+// The contact of a cut that meets a sample of the class.
+impl From<Class> for Contact {
+    ghost from_gives = { λ k r. r ≡ contact_of k };
+
+    fn from(class: Class) -> Contact {
+        match class {
             Class::Part => Contact::Part,
             Class::Allowance => Contact::Allowance,
             Class::Fixture => Contact::Fixture,

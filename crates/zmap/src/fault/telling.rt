@@ -2,7 +2,7 @@
 ghost use Rattle.std.specs.Prelude.{◌≡◌};
 ghost use Rattle.zmap.specs.Faults.{parts_of, step_of, bare, at_step};
 
-use crate::{Class, Contact, End, Fault, Node, Parts};
+use crate::{Contact, End, Fault, Node, Parts};
 
 impl Fault {
     // The number, step, column, row and class of the fault.
@@ -31,7 +31,7 @@ impl Fault {
             Fault::NodeOff(end) => at_step(19, step_of(end)),
             Fault::TipRange(end) => at_step(20, step_of(end)),
             Fault::Uncovered => bare(21),
-            Fault::Invaded(step, s, class) => at_sample(22, step, s, class.contact()),
+            Fault::Invaded(step, s, class) => at_sample(22, step, s, Contact::from(class)),
             Fault::BlockMet(step, s) => at_sample(23, step, s, Contact::Clear),
             Fault::MapLength => bare(24),
             Fault::Band => bare(25),

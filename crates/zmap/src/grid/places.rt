@@ -63,9 +63,5 @@ fn moved(i: usize, by: i32, end: usize) -> Option<usize>
     requires { (i < end) × (end ≤ 512) }
     ensures { MatchOption result ((k : ℕ) → k < end → pos k ≢ (pos i +ℤ by)) (λ k. (k < end) × (pos k ≡ (pos i +ℤ by))) }
 {
-    let k = i as i64 + by as i64;
-    if k < 0 || k >= end as i64 {
-        return None;
-    }
-    Some(k as usize)
+    i.checked_add_signed(by as isize).filter(|k| *k < end)
 }
