@@ -16,13 +16,13 @@ pub trait Field {
     // The height and class at each node of the map; off the map it says nothing.
     ghost surface: { Self → Place → Told };
 
-    // On the map heights are in range: what each field has to show.
-    ghost heights: { (x : Self) (n : Place) → On (extent x) n → Height (surface x n).height };
-
     fn grid(&self) -> Grid
         ensures { result ≡ extent self.now };
 
     // The height and class at a column and row, or nothing off the map.
     fn sample(&self, n: Node) -> Option<Sample>
         ensures { MatchOption result (On (extent self.now) n → ⊥) (λ s. On (extent self.now) n × (s ≡ surface self.now n)) };
+
+    // On the map heights are in range: what each field has to show.
+    ghost heights: { (x : Self) (n : Place) → On (extent x) n → Height (surface x n).height };
 }
