@@ -2,7 +2,6 @@
 #![tactic(auto)]
 
 mod line;
-mod moves;
 mod text;
 
 pub use line::Line;

@@ -80,7 +80,7 @@ fn met_at<F: Field, C: Cutter>(guard: &F, cutter: &C, grid: &Grid, p: Pose, o: O
     };
     let sample = told(guard, cover.sample);
     if underside(p, cover.rise) == sample.height {
-        return sample.class.contact();
+        return sample.class.into();
     }
     Contact::Clear
 }

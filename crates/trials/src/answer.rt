@@ -1,94 +1,74 @@
-// What a call answered, and its text.
-use lines::Line;
-use std::alloc::{AllocError, Global};
-use zmap::{Class, Fault, Sample};
+// What a call answered, as text.
+use std::fmt;
+use zmap::{Fault, Sample};
 
-// What a call answered.
-#[derive(Clone, Copy)]
-pub(crate) enum Answer {
-    // it was done, or made
-    Taken,
-    // why it was refused
-    Refused(Fault),
-    // the number that was given
-    Numbered(usize),
-    // what stands there, in µm
-    Stands(i32),
-    // a height and a class
-    Told(Sample),
-    // there is nothing here
-    Nothing,
-    // a line
-    Said(Line),
-    // a line, and that it left the block as it was
-    Kept(Line),
-    // no case of the topic
-    Unasked,
-}
+// An outcome prints its value or its error.
+#[derive(Drop)]
+pub(crate) struct Outcome<T, E>(pub Result<T, E>);
 
-// The answer of an outcome, whatever it holds.
-pub(crate) fn told<T: Drop>(outcome: Result<T, Fault>) -> Answer {
-    match outcome {
-        Ok(_) => Answer::Taken,
-        Err(fault) => Answer::Refused(fault),
-    }
-}
-
-// The sample that a field told, if it told one.
-pub(crate) fn sampled(sample: Option<Sample>) -> Answer {
-    match sample {
-        Some(s) => Answer::Told(s),
-        None => Answer::Nothing,
-    }
-}
-
-// What stands at a place of a block.
-pub(crate) fn entry(block: &[i32], place: i32) -> Answer {
-    match block.get(index(place)) {
-        Some(z) => Answer::Stands(*z),
-        None => Answer::Nothing,
-    }
-}
-
-// The number as an index; a negative one stands for the greatest index.
-pub(crate) fn index(n: i32) -> usize {
-    if n < 0 {
-        return usize::MAX;
-    }
-    n as usize
-}
-
-impl Answer {
-    // The text of the answer.
-    pub(crate) fn text(&self, heap: Global) -> Result<String, AllocError> {
-        match *self {
-            Answer::Taken => "taken".to_string(heap),
-            Answer::Refused(fault) => fault.parts().number.to_string(heap),
-            Answer::Numbered(n) => n.to_string(heap),
-            Answer::Stands(z) => z.to_string(heap),
-            Answer::Told(s) => sample_text(heap, s),
-            Answer::Nothing => "nothing".to_string(heap),
-            Answer::Said(line) => line.text(heap),
-            Answer::Kept(line) => kept_text(heap, line),
-            Answer::Unasked => "unasked".to_string(heap),
+impl<T: fmt::Display, E: fmt::Display> fmt::Display for Outcome<T, E> {
+    fn fmt<W: fmt::Write>(&self, f: &mut fmt::Formatter<W>) -> fmt::Result {
+        match &self.0 {
+            Ok(value) => write!(f, "{value}"),
+            Err(error) => write!(f, "{error}"),
         }
     }
 }
 
-// The height and class of a sample.
-fn sample_text(heap: Global, s: Sample) -> Result<String, AllocError> {
-    let height = s.height;
-    let class = match s.class {
-        Class::Part => "part",
-        Class::Allowance => "allowance",
-        Class::Fixture => "fixture",
-    };
-    format!(in heap; "{height} {class}")
+// A value prints itself, and none that there is nothing.
+#[derive(Drop)]
+pub(crate) struct Perhaps<T>(pub Option<T>);
+
+impl<T: fmt::Display> fmt::Display for Perhaps<T> {
+    fn fmt<W: fmt::Write>(&self, f: &mut fmt::Formatter<W>) -> fmt::Result {
+        match &self.0 {
+            Some(value) => write!(f, "{value}"),
+            None => f.write_str("nothing"),
+        }
+    }
 }
 
-// A line and that the block is as it was.
-fn kept_text(heap: Global, line: Line) -> Result<String, AllocError> {
-    let mut text = line.text(heap)?;
-    text.push_str(", kept")?;
-    Ok(text)
+// The number of a refusal.
+#[derive(Clone, Copy)]
+pub(crate) struct Number(pub Fault);
+
+impl fmt::Display for Number {
+    fn fmt<W: fmt::Write>(&self, f: &mut fmt::Formatter<W>) -> fmt::Result {
+        let number = self.0.parts().number;
+        write!(f, "{number}")
+    }
+}
+
+// What was asked for was done, or made.
+#[derive(Clone, Copy)]
+pub(crate) struct Taken;
+
+impl fmt::Display for Taken {
+    fn fmt<W: fmt::Write>(&self, f: &mut fmt::Formatter<W>) -> fmt::Result {
+        f.write_str("taken")
+    }
+}
+
+// The height and the class of a sample.
+#[derive(Clone, Copy)]
+pub(crate) struct Told(pub Sample);
+
+impl fmt::Display for Told {
+    fn fmt<W: fmt::Write>(&self, f: &mut fmt::Formatter<W>) -> fmt::Result {
+        let Sample { height, class } = self.0;
+        write!(f, "{height} {class}")
+    }
+}
+
+// That a call was taken, or the number of its refusal.
+pub(crate) type Taking = Outcome<Taken, Number>;
+
+// Whether a call was taken, whatever it made.
+pub(crate) fn taking<T: Drop>(outcome: Result<T, Fault>) -> Taking {
+    Outcome(outcome.map(|_| Taken).map_err(Number))
+}
+
+// The number as an index; a negative one stands for the greatest index.
+pub(crate) fn index(n: i32) -> usize {
+    usize::try_from(n).unwrap_or(usize::MAX)
 }

@@ -1,8 +1,8 @@
 // Clamps at the limits of the map, of their height and of their number.
-use crate::answer::{Answer, index, told};
+use crate::answer::{Number, Outcome, Taking, index, taking};
 use fields::Raster;
 use setups::{Clamp, OpenSetup, Span};
-use zmap::{Field, Grid};
+use zmap::{Fault, Grid};
 
 // On five columns and four rows, after so many others: first column, first row, last column, last row and height.
 pub(crate) const CLAMPS: [[i32; 6]; 46] = [
@@ -77,34 +77,31 @@ pub(crate) const RAISES: [[i32; 3]; 19] = [
     [3, -1, i32::MAX],
 ];
 
-// After so many clamps, the number of one more, or whether one is raised.
-pub(crate) fn answer(numbers: &[i32]) -> Answer {
-    let Ok(grid) = Grid::new(5, 4, 100) else {
-        return Answer::Unasked;
-    };
-    let [count, words @ ..] = numbers else {
-        return Answer::Unasked;
-    };
-    let part = Raster { grid, heights: &[] };
-    let mut setup = OpenSetup::new(part);
-    for _ in 0..*count {
-        let _ = setup.add(clamp([1, 1, 2, 2, 3]));
-    }
-    after(&mut setup, words)
+// The number of one more clamp after so many others, or its refusal.
+pub(crate) fn added([count, west, north, east, south, height]: [i32; 6]) -> Outcome<usize, Number> {
+    Outcome(
+        opened(count)
+            .and_then(|mut setup| setup.add(clamp([west, north, east, south, height])))
+            .map_err(Number),
+    )
 }
 
-// What a set-up answers to a raise, or to one more clamp.
-fn after<F: Field>(setup: &mut OpenSetup<F>, words: &[i32]) -> Answer {
-    match words {
-        [number, height] => told(setup.raise(index(*number), *height)),
-        [west, north, east, south, height] => {
-            match setup.add(clamp([*west, *north, *east, *south, *height])) {
-                Ok(number) => Answer::Numbered(number),
-                Err(fault) => Answer::Refused(fault),
-            }
-        }
-        _ => Answer::Unasked,
+// Whether a clamp of so many is raised.
+pub(crate) fn raised([count, number, height]: [i32; 3]) -> Taking {
+    taking(opened(count).and_then(|mut setup| setup.raise(index(number), height)))
+}
+
+// A set-up with so many clamps, all alike.
+fn opened(count: i32) -> Result<OpenSetup<Raster<'static>>, Fault> {
+    let part = Raster {
+        grid: Grid::new(5, 4, 100)?,
+        heights: &[],
+    };
+    let mut setup = OpenSetup::new(part);
+    for _ in 0..count {
+        setup.add(clamp([1, 1, 2, 2, 3]))?;
     }
+    Ok(setup)
 }
 
 // The clamp of first column, first row, last column, last row and height.

@@ -1,5 +1,6 @@
 // The line of each fault and of each contact.
 use lines::Line;
+use milling::Removed;
 use zmap::{Class, Contact, End, Fault, Node};
 
 // The faults by number, those that name an end or a class with each.
@@ -57,29 +58,24 @@ const CONTACTS: [Contact; 4] = [
 
 // Prints a refused line of each fault, and a cut line of each contact.
 pub(crate) fn print(rt: &HostRuntime) -> anyhow::Result<()> {
-    for fault in FAULTS.iter() {
-        show(
-            rt,
-            Line::Refused {
-                number: 1,
-                fault: *fault,
-            },
-        )?;
+    for fault in FAULTS {
+        let line = Line::Move {
+            number: 1,
+            answer: Err(fault),
+        };
+        println!(rt; "{line}")?;
     }
-    for contact in CONTACTS.iter() {
-        let line = Line::Cut {
-            number: 2,
+    for contact in CONTACTS {
+        let removed = Removed {
             samples: 3,
             loss: 1499700,
-            contact: *contact,
+            contact,
         };
-        show(rt, line)?;
+        let line = Line::Move {
+            number: 2,
+            answer: Ok(removed),
+        };
+        println!(rt; "{line}")?;
     }
-    Ok(())
-}
-
-// Prints a line.
-pub(crate) fn show(rt: &HostRuntime, line: Line) -> anyhow::Result<()> {
-    rt.println(line.text(rt.alloc())?)?;
     Ok(())
 }

@@ -1,7 +1,7 @@
 // Flat cutters at the limits of their pitch and radius, and what they cover.
-use crate::answer::{Answer, told};
+use crate::answer::{Perhaps, Taking, taking};
 use cutters::{Cutter, Flat};
-use zmap::Offset;
+use zmap::{Fault, Offset};
 
 // Pitch and radius; the last ones fail both checks.
 pub(crate) const FLATS: [[i32; 2]; 22] = [
@@ -66,22 +66,13 @@ pub(crate) const OFFSETS: [[i32; 4]; 33] = [
     [100, 1599, i32::MIN, i32::MAX],
 ];
 
-// Whether pitch and radius make a cutter, or whether it covers an offset.
-pub(crate) fn answer(numbers: &[i32]) -> Answer {
-    match numbers {
-        [pitch, radius] => told(Flat::new(*pitch, *radius)),
-        [pitch, radius, dx, dy] => covered(*pitch, *radius, Offset { dx: *dx, dy: *dy }),
-        _ => Answer::Unasked,
-    }
+// Whether pitch and radius make a cutter.
+pub(crate) fn answer([pitch, radius]: [i32; 2]) -> Taking {
+    taking(Flat::new(pitch, radius))
 }
 
 // What a cutter of the pitch and radius tells at an offset.
-fn covered(pitch: i32, radius: i32, o: Offset) -> Answer {
-    let Ok(flat) = Flat::new(pitch, radius) else {
-        return Answer::Unasked;
-    };
-    match flat.profile(o) {
-        Some(height) => Answer::Numbered(height as usize),
-        None => Answer::Nothing,
-    }
+pub(crate) fn covered([pitch, radius, dx, dy]: [i32; 4]) -> Result<Perhaps<u32>, Fault> {
+    let flat = Flat::new(pitch, radius)?;
+    Ok(Perhaps(flat.profile(Offset { dx, dy })))
 }

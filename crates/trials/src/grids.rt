@@ -1,5 +1,5 @@
 // Grids at the limits of their columns, rows and pitch.
-use crate::answer::{Answer, told};
+use crate::answer::{Taking, taking};
 use zmap::Grid;
 
 // Columns, rows and pitch; the last ones fail more checks than one.
@@ -35,9 +35,6 @@ pub(crate) const GRIDS: [[i32; 3]; 28] = [
 ];
 
 // Whether columns, rows and pitch make a grid.
-pub(crate) fn answer(numbers: &[i32]) -> Answer {
-    let [columns, rows, pitch] = numbers else {
-        return Answer::Unasked;
-    };
-    told(Grid::new(*columns, *rows, *pitch))
+pub(crate) fn answer([columns, rows, pitch]: [i32; 3]) -> Taking {
+    taking(Grid::new(columns, rows, pitch))
 }

@@ -14,7 +14,7 @@ mod surfaces;
 mod topic;
 mod turns;
 
-use topic::{Topic, all};
+use topic::all;
 
 fn main(rt: HostRuntime) -> anyhow::Result<()> {
     run(&rt)
@@ -32,37 +32,63 @@ fn run(rt: &HostRuntime) -> anyhow::Result<()> {
 
 // Grids, cutters and the lengths and heights of rasters.
 fn makings(rt: &HostRuntime) -> anyhow::Result<()> {
-    all(rt, "grid", Topic::Grid, &grids::GRIDS)?;
-    all(rt, "flat", Topic::Flat, &flats::FLATS)?;
-    all(rt, "cover", Topic::Flat, &flats::OFFSETS)?;
-    all(rt, "raster", Topic::Raster, &rasters::SHORT)?;
-    all(rt, "raster", Topic::Raster, &rasters::WHOLE)?;
-    all(rt, "raster", Topic::Raster, &rasters::LONG)
+    all(rt, "grid", &grids::GRIDS, |c| Ok(grids::answer(c)))?;
+    all(rt, "flat", &flats::FLATS, |c| Ok(flats::answer(c)))?;
+    all(rt, "cover", &flats::OFFSETS, |c| Ok(flats::covered(c)?))?;
+    all(rt, "raster", &rasters::SHORT, |c| Ok(rasters::checked(&c)?))?;
+    all(rt, "raster", &rasters::WHOLE, |c| Ok(rasters::checked(&c)?))?;
+    all(rt, "raster", &rasters::LONG, |c| Ok(rasters::checked(&c)?))
 }
 
 // Samples, clamps and new blocks.
 fn guards(rt: &HostRuntime) -> anyhow::Result<()> {
-    all(rt, "sample", Topic::Raster, &rasters::NODES)?;
-    all(rt, "clamp", Topic::Clamp, &clamps::CLAMPS)?;
-    all(rt, "raise", Topic::Clamp, &clamps::RAISES)?;
-    all(rt, "surface", Topic::Surface, &surfaces::SURFACES)?;
-    all(rt, "new", Topic::Block, &poses::LENGTHS)?;
-    all(rt, "renewed", Topic::Block, &poses::PLACES)
+    all(rt, "sample", &rasters::NODES, |c| Ok(rasters::sampled(c)?))?;
+    all(rt, "clamp", &clamps::CLAMPS, |c| Ok(clamps::added(c)))?;
+    all(rt, "raise", &clamps::RAISES, |c| Ok(clamps::raised(c)))?;
+    all(
+        rt,
+        "surface",
+        &surfaces::SURFACES,
+        |c| Ok(surfaces::answer(c)?),
+    )?;
+    all(rt, "new", &poses::LENGTHS, |c| Ok(poses::renewed(c)?))?;
+    all(rt, "renewed", &poses::PLACES, |c| Ok(poses::placed(c)?))
 }
 
 // Poses.
 fn cuts(rt: &HostRuntime) -> anyhow::Result<()> {
-    all(rt, "pose", Topic::Pose, &poses::FORMS)?;
-    all(rt, "pose", Topic::Pose, &poses::TIPS)?;
-    all(rt, "single", Topic::Pose, &poses::ENDS)?;
-    all(rt, "turn", Topic::Turn, &turns::TURNS)?;
-    all(rt, "place", Topic::Turn, &turns::PLACES)
+    all(rt, "pose", &poses::FORMS, |c| Ok(poses::clamped(c)?))?;
+    all(rt, "pose", &poses::TIPS, |c| Ok(poses::clamped(c)?))?;
+    all(rt, "single", &poses::ENDS, |c| Ok(poses::single(c)?))?;
+    all(rt, "turn", &turns::TURNS, |c| Ok(turns::last(c)?))?;
+    all(rt, "place", &turns::PLACES, |c| Ok(turns::placed(c)?))
 }
 
 // The bytes of jobs.
 fn bytes(rt: &HostRuntime) -> anyhow::Result<()> {
-    all(rt, "bytes", Topic::Job, &reading::lengths::LENGTHS)?;
-    all(rt, "word", Topic::Job, &reading::changes::ONE)?;
-    all(rt, "words", Topic::Job, &reading::changes::THREE)?;
-    all(rt, "amounts", Topic::Job, &reading::amounts::AMOUNTS)
+    let heap = rt.alloc();
+    all(
+        rt,
+        "bytes",
+        &reading::lengths::LENGTHS,
+        |c| Ok(reading::shortened(heap, c)?),
+    )?;
+    all(
+        rt,
+        "word",
+        &reading::changes::ONE,
+        |c| Ok(reading::changed(heap, [c])?),
+    )?;
+    all(
+        rt,
+        "words",
+        &reading::changes::THREE,
+        |[a, x, b, y, c, z]| { Ok(reading::changed(heap, [[a, x], [b, y], [c, z]])?) },
+    )?;
+    all(
+        rt,
+        "amounts",
+        &reading::amounts::AMOUNTS,
+        |c| Ok(reading::built(heap, c)?),
+    )
 }

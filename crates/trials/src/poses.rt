@@ -1,12 +1,13 @@
 // New blocks of right and wrong lengths, and poses at the limits of every check, each on a block of its own.
-use crate::answer::{Answer, entry, index, told};
+use crate::answer::{Perhaps, Taking, index, taking};
 use crate::clamps::clamp;
 use cutters::Flat;
 use fields::Raster;
 use lines::Line;
 use milling::pose;
 use setups::{OpenSetup, Setup};
-use zmap::{Field, Grid};
+use std::fmt;
+use zmap::{Fault, Field, Grid};
 
 // The lengths of blocks for a map of six samples.
 pub(crate) const LENGTHS: [[i32; 1]; 5] = [[0], [1], [5], [6], [7]];
@@ -88,20 +89,19 @@ const MARKED: [i32; 16] = [
     400012, 400013, 400014, 400015,
 ];
 
-// Whether a block of the length is renewed, or what then stands at a place.
-pub(crate) fn renewed(numbers: &[i32]) -> Answer {
-    let Ok(grid) = Grid::new(3, 2, 100) else {
-        return Answer::Unasked;
-    };
+// Whether a block of the length is renewed.
+pub(crate) fn renewed([long]: [i32; 1]) -> Result<Taking, Fault> {
+    let grid = Grid::new(3, 2, 100)?;
     let mut marked = MARKED;
-    match numbers {
-        [long] => told(milling::new(&grid, cut(&mut marked, *long))),
-        [long, place] => {
-            let _ = milling::new(&grid, cut(&mut marked, *long));
-            entry(&marked, *place)
-        }
-        _ => Answer::Unasked,
-    }
+    Ok(taking(milling::new(&grid, cut(&mut marked, long))))
+}
+
+// What stands at a place after a block of the length was to be renewed.
+pub(crate) fn placed([long, place]: [i32; 2]) -> Result<Perhaps<i32>, Fault> {
+    let grid = Grid::new(3, 2, 100)?;
+    let mut marked = MARKED;
+    let _ = milling::new(&grid, cut(&mut marked, long));
+    Ok(Perhaps(marked.get(index(place)).copied()))
 }
 
 // The block cut to the length.
@@ -113,59 +113,72 @@ fn cut(block: &mut [i32], long: i32) -> &mut [i32] {
     &mut block[0..long]
 }
 
-// The line of a pose over a part with clamps above it on two sides and one level with it, or over one sample.
-pub(crate) fn answer(numbers: &[i32]) -> Answer {
-    match numbers {
-        [pitch, long, column, row, tip] => clamped(*pitch, *long, *column, *row, *tip),
-        [height, tip] => single(*height, *tip),
-        _ => Answer::Unasked,
+// The line of a pose, and that it left the block as it was.
+#[derive(Clone, Copy)]
+pub(crate) struct Posed {
+    line: Line,
+    kept: bool,
+}
+
+impl fmt::Display for Posed {
+    fn fmt<W: fmt::Write>(&self, f: &mut fmt::Formatter<W>) -> fmt::Result {
+        let line = self.line;
+        if self.kept {
+            return write!(f, "{line}, kept");
+        }
+        write!(f, "{line}")
     }
 }
 
-// The line of a pose over fifteen samples and three clamps.
-fn clamped(pitch: i32, long: i32, column: i32, row: i32, tip: i32) -> Answer {
-    let Ok(grid) = Grid::new(5, 3, 100) else {
-        return Answer::Unasked;
-    };
+// The line of a pose over fifteen samples, with clamps above the part on two sides and one level with it.
+pub(crate) fn clamped([pitch, long, column, row, tip]: [i32; 5]) -> Result<Posed, Fault> {
     let part = Raster {
-        grid,
+        grid: Grid::new(5, 3, 100)?,
         heights: &[0, 0, 0, 100, 0, 0, 50, 0, 0, 0, 0, 0, 0, 0, -20],
     };
     let mut setup = OpenSetup::new(part);
-    let _ = setup.add(clamp([0, 2, 1, 2, 100]));
-    let _ = setup.add(clamp([1, 0, 1, 0, 100]));
-    let _ = setup.add(clamp([4, 0, 4, 0, 0]));
-    posed(&setup.lock(), pitch, long, column, row, tip)
+    setup.add(clamp([0, 2, 1, 2, 100]))?;
+    setup.add(clamp([1, 0, 1, 0, 100]))?;
+    setup.add(clamp([4, 0, 4, 0, 0]))?;
+    cut_by(
+        &setup.lock(),
+        Flat::new(pitch, 100)?,
+        long,
+        column,
+        row,
+        tip,
+    )
 }
 
 // The line of a pose over one sample of the height.
-fn single(height: i32, tip: i32) -> Answer {
-    let Ok(grid) = Grid::new(1, 1, 100) else {
-        return Answer::Unasked;
-    };
+pub(crate) fn single([height, tip]: [i32; 2]) -> Result<Posed, Fault> {
     let part = Raster {
-        grid,
+        grid: Grid::new(1, 1, 100)?,
         heights: &[height],
     };
-    posed(&OpenSetup::new(part).lock(), 100, 1, 0, 0, tip)
+    cut_by(
+        &OpenSetup::new(part).lock(),
+        Flat::new(100, 100)?,
+        1,
+        0,
+        0,
+        tip,
+    )
 }
 
-// The line of a pose of a cutter of radius 100 over a guard, on a marked block of the length.
-fn posed<F: Field>(
+// The line of a pose of the cutter over a guard, on a marked block of the length.
+fn cut_by<F: Field>(
     guard: &Setup<F>,
-    pitch: i32,
+    cutter: Flat,
     long: i32,
     column: i32,
     row: i32,
     tip: i32,
-) -> Answer {
-    let Ok(cutter) = Flat::new(pitch, 100) else {
-        return Answer::Unasked;
-    };
+) -> Result<Posed, Fault> {
     let mut marked = MARKED;
     let answer = pose(guard, &cutter, cut(&mut marked, long), column, row, tip);
-    if marked == MARKED {
-        return Answer::Kept(Line::of_move(1, answer));
-    }
-    Answer::Said(Line::of_move(1, answer))
+    Ok(Posed {
+        line: Line::Move { number: 1, answer },
+        kept: marked == MARKED,
+    })
 }

@@ -1,8 +1,8 @@
 // Rasters at the limits of their length and heights, and their samples.
-use crate::answer::{Answer, index, sampled};
+use crate::answer::{Outcome, Perhaps, Taken, Told, index};
 use fields::Raster;
 use lines::Line;
-use zmap::{Field, Grid, Node};
+use zmap::{Fault, Field, Grid, Node};
 
 // The heights of rasters on three columns and two rows: one too few.
 pub(crate) const SHORT: [[i32; 5]; 2] = [[0, 0, 0, 0, 0], [500001, 0, 0, 0, 0]];
@@ -42,31 +42,27 @@ pub(crate) const NODES: [[i32; 2]; 12] = [
     [-1, -1],
 ];
 
-// The check of a raster of these heights, or the sample of one at a column and a row.
-pub(crate) fn answer(numbers: &[i32]) -> Answer {
-    let Ok(grid) = Grid::new(3, 2, 100) else {
-        return Answer::Unasked;
-    };
-    match numbers {
-        [column, row] => at(grid, index(*column), index(*row)),
-        _ => checked(grid, numbers),
-    }
+// What the check of a raster of these heights answers.
+pub(crate) fn checked(heights: &[i32]) -> Result<Outcome<Taken, Line>, Fault> {
+    let grid = Grid::new(3, 2, 100)?;
+    let outcome = Raster { grid, heights }.check();
+    Ok(Outcome(
+        outcome.map(|()| Taken).map_err(|fault| Line::Move {
+            number: 1,
+            answer: Err(fault),
+        }),
+    ))
 }
 
-// What the check of a raster answers.
-fn checked(grid: Grid, heights: &[i32]) -> Answer {
-    let raster = Raster { grid, heights };
-    match raster.check() {
-        Ok(()) => Answer::Taken,
-        Err(fault) => Answer::Said(Line::Refused { number: 1, fault }),
-    }
-}
-
-// The sample of a raster with entries out of range and the last one missing.
-fn at(grid: Grid, column: usize, row: usize) -> Answer {
+// The sample at a column and a row of a raster with entries out of range and the last one missing.
+pub(crate) fn sampled([column, row]: [i32; 2]) -> Result<Perhaps<Told>, Fault> {
     let raster = Raster {
-        grid,
+        grid: Grid::new(3, 2, 100)?,
         heights: &[-500000, 500001, -500001, 7, i32::MIN],
     };
-    sampled(raster.sample(Node { column, row }))
+    let n = Node {
+        column: index(column),
+        row: index(row),
+    };
+    Ok(Perhaps(raster.sample(n).map(Told)))
 }

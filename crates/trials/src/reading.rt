@@ -3,7 +3,7 @@ pub(crate) mod amounts;
 pub(crate) mod changes;
 pub(crate) mod lengths;
 
-use crate::answer::{Answer, index};
+use crate::answer::{Outcome, Taken, index};
 use jobs::{Store, read};
 use lines::Line;
 use std::alloc::{AllocError, Global};
@@ -14,84 +14,61 @@ const SMALL: [i32; 44] = [
     -70, 2, 1, 1, 1, 80, 7, 8, 9, 1, -1, 0, 90, 0, 0, 0,
 ];
 
-// What is read of so many bytes of the small job and two words more, of it with words changed, or of a job of such amounts.
-pub(crate) fn answer(heap: Global, numbers: &[i32]) -> Result<Answer, AllocError> {
+// What is read of so many bytes of the small job and two words more.
+pub(crate) fn shortened(heap: Global, [long]: [i32; 1]) -> Result<Reading, AllocError> {
     let mut bytes = Vec::new(heap);
-    match numbers {
-        [long] => shortened(&mut bytes, *long)?,
-        [a, x] => changed(&mut bytes, [*a, *x, 0, 1, 0, 1])?,
-        [a, x, b, y, c, z] => changed(&mut bytes, [*a, *x, *b, *y, *c, *z])?,
-        _ => built(&mut bytes, numbers)?,
+    spell(&mut bytes, &SMALL)?;
+    spell(&mut bytes, &[1, 1])?;
+    bytes.truncate(index(long));
+    outcome(heap, bytes.as_slice())
+}
+
+// What is read of the small job with words changed, each a place and the new word; of two changes of one word the first counts.
+pub(crate) fn changed<const N: usize>(
+    heap: Global,
+    changes: [[i32; 2]; N],
+) -> Result<Reading, AllocError> {
+    let mut bytes = Vec::new(heap);
+    for (i, word) in SMALL.iter().enumerate() {
+        let change = changes.iter().find(|change| index(change[0]) == i);
+        spell(&mut bytes, &[change.map_or(*word, |change| change[1])])?;
     }
     outcome(heap, bytes.as_slice())
 }
 
-// That the bytes are a job, or the line of a bad one.
-fn outcome(heap: Global, bytes: &[u8]) -> Result<Answer, AllocError> {
-    match read(Store::new(heap)?, bytes) {
-        Ok(_) => Ok(Answer::Taken),
-        Err(bad) => {
-            let line = Line::Bad {
-                fault: bad.fault,
-                section: bad.section,
-                at: bad.at,
-            };
-            Ok(Answer::Said(line))
-        }
+// What is read of a job of such amounts, with a cutter of radius 0, and of the bytes over.
+pub(crate) fn built(heap: Global, amounts: [i32; 7]) -> Result<Reading, AllocError> {
+    let [pitch, columns, rows, heights, clamps, moves, over] = amounts;
+    let mut bytes = Vec::new(heap);
+    spell(&mut bytes, &[1, columns, rows, pitch, 1, 1, 0, 0, 0])?;
+    repeat(&mut bytes, heights, &[0])?;
+    spell(&mut bytes, &[0, 0])?;
+    repeat(&mut bytes, clamps, &[0, 0, 0, 0, 0])?;
+    repeat(&mut bytes, moves, &[1, 0, 0, 0, 0, 0, 0])?;
+    for _ in 0..over {
+        bytes.push(0)?;
     }
+    outcome(heap, bytes.as_slice())
+}
+
+// That bytes are a job, or the line of a bad one.
+pub(crate) type Reading = Outcome<Taken, Line>;
+
+fn outcome(heap: Global, bytes: &[u8]) -> Result<Reading, AllocError> {
+    let outcome = read(Store::new(heap)?, bytes);
+    Ok(Outcome(
+        outcome.map(|_| Taken).map_err(|bad| Line::Bad {
+            fault: bad.fault,
+            section: bad.section,
+            at: bad.at,
+        }),
+    ))
 }
 
 // Adds the bytes of the words.
 fn spell(bytes: &mut Vec<u8>, words: &[i32]) -> Result<(), AllocError> {
     for word in words {
         bytes.extend_from_slice(&word.to_le_bytes())?;
-    }
-    Ok(())
-}
-
-// Adds so many bytes of the small job and of two words more.
-fn shortened(bytes: &mut Vec<u8>, long: i32) -> Result<(), AllocError> {
-    spell(bytes, &SMALL)?;
-    spell(bytes, &[1, 1])?;
-    bytes.truncate(index(long));
-    Ok(())
-}
-
-// Adds the small job with three words changed; of two changes of one word the first counts.
-fn changed(bytes: &mut Vec<u8>, changes: [i32; 6]) -> Result<(), AllocError> {
-    let [a, x, b, y, c, z] = changes;
-    for (i, word) in SMALL.iter().enumerate() {
-        let word = if i == index(a) {
-            x
-        } else if i == index(b) {
-            y
-        } else if i == index(c) {
-            z
-        } else {
-            *word
-        };
-        spell(bytes, &[word])?;
-    }
-    Ok(())
-}
-
-// Adds a job of such amounts, with a cutter of radius 0, and the bytes over.
-fn built(bytes: &mut Vec<u8>, amounts: &[i32]) -> Result<(), AllocError> {
-    let [pitch, columns, rows, heights, clamps, moves, over] = amounts else {
-        return Ok(());
-    };
-    spell(bytes, &[1, *columns, *rows, *pitch, 1, 1, 0, 0, 0])?;
-    repeat(bytes, *heights, &[0])?;
-    spell(bytes, &[0, 0])?;
-    repeat(bytes, *clamps, &[0, 0, 0, 0, 0])?;
-    repeat(bytes, *moves, &[1, 0, 0, 0, 0, 0, 0])?;
-    pad(bytes, *over)
-}
-
-// Adds so many zero bytes.
-fn pad(bytes: &mut Vec<u8>, over: i32) -> Result<(), AllocError> {
-    for _ in 0..over {
-        bytes.push(0)?;
     }
     Ok(())
 }

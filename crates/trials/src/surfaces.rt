@@ -1,9 +1,9 @@
 // The samples of set-ups: clamps at, below and above the part, over each other, raised and lowered.
-use crate::answer::{Answer, index, sampled};
+use crate::answer::{Perhaps, Told, index};
 use crate::clamps::clamp;
 use fields::Raster;
 use setups::OpenSetup;
-use zmap::{Field, Grid, Node};
+use zmap::{Fault, Field, Grid, Node};
 
 // The heights of a clamp over columns 0 to 2 and of one over columns 1 to 3, the number that is raised and its new height, and column
 // and row; a raise of number -1 is refused and leaves the clamps.
@@ -92,22 +92,20 @@ pub(crate) const SURFACES: [[i32; 6]; 81] = [
 ];
 
 // The sample of five columns and two rows under the two clamps.
-pub(crate) fn answer(numbers: &[i32]) -> Answer {
-    let Ok(grid) = Grid::new(5, 2, 100) else {
-        return Answer::Unasked;
-    };
-    let [a, b, number, height, column, row] = numbers else {
-        return Answer::Unasked;
-    };
+pub(crate) fn answer(
+    [a, b, number, height, column, row]: [i32; 6],
+) -> Result<Perhaps<Told>, Fault> {
     let part = Raster {
-        grid,
+        grid: Grid::new(5, 2, 100)?,
         heights: &[0, 0, 0, 100, 0, 0, -1, 1, 500001],
     };
     let mut setup = OpenSetup::new(part);
-    let _ = setup.add(clamp([0, 0, 2, 1, *a]));
-    let _ = setup.add(clamp([1, 0, 3, 0, *b]));
-    let _ = setup.raise(index(*number), *height);
-    let column = index(*column);
-    let row = index(*row);
-    sampled(setup.lock().sample(Node { column, row }))
+    setup.add(clamp([0, 0, 2, 1, a]))?;
+    setup.add(clamp([1, 0, 3, 0, b]))?;
+    let _ = setup.raise(index(number), height);
+    let n = Node {
+        column: index(column),
+        row: index(row),
+    };
+    Ok(Perhaps(setup.lock().sample(n).map(Told)))
 }

@@ -1,12 +1,12 @@
 // Poses one after another on one block.
-use crate::answer::{Answer, entry, index};
+use crate::answer::{Perhaps, index};
 use crate::clamps::clamp;
 use cutters::Flat;
 use fields::Raster;
 use lines::Line;
 use milling::pose;
-use setups::{OpenSetup, Setup};
-use zmap::{Field, Grid};
+use setups::OpenSetup;
+use zmap::{Fault, Grid};
 
 // How many poses there are.
 pub(crate) const TURNS: [[i32; 1]; 14] = [
@@ -59,43 +59,36 @@ const POSES: [[i32; 3]; 13] = [
     [1, 0, 49],
 ];
 
-// The line of the last of so many poses, or what then stands at a place, over five samples with a clamp over the middle one.
-pub(crate) fn answer(numbers: &[i32]) -> Answer {
-    let Ok(grid) = Grid::new(5, 1, 100) else {
-        return Answer::Unasked;
-    };
+// The line of the last of so many poses.
+pub(crate) fn last([count]: [i32; 1]) -> Result<Perhaps<Line>, Fault> {
+    let mut block = [0; 5];
+    Ok(Perhaps(turns(&mut block, count)?))
+}
+
+// What stands at a place after so many poses.
+pub(crate) fn placed([count, place]: [i32; 2]) -> Result<Perhaps<i32>, Fault> {
+    let mut block = [0; 5];
+    turns(&mut block, count)?;
+    Ok(Perhaps(block.get(index(place)).copied()))
+}
+
+// Takes so many of the poses on a new block, over five samples with a clamp over the middle one, and answers the line of the last.
+fn turns(block: &mut [i32], count: i32) -> Result<Option<Line>, Fault> {
+    let grid = Grid::new(5, 1, 100)?;
     let part = Raster {
         grid,
         heights: &[0, 0, 0, 100, 0],
     };
-    let mut block = [0; 5];
-    let _ = milling::new(&grid, &mut block);
-    match numbers {
-        [count] => turns(part, &mut block, *count),
-        [count, place] => {
-            let _ = turns(part, &mut block, *count);
-            entry(&block, *place)
-        }
-        _ => Answer::Unasked,
-    }
-}
-
-// Takes so many of the poses over the part and a clamp, and answers the line of the last.
-fn turns(part: Raster<'_>, block: &mut [i32], count: i32) -> Answer {
-    let Ok(cutter) = Flat::new(100, 100) else {
-        return Answer::Unasked;
-    };
     let mut setup = OpenSetup::new(part);
-    let _ = setup.add(clamp([2, 0, 2, 0, 50]));
-    last_of(&setup.lock(), &cutter, block, count)
-}
-
-// Takes so many of the poses over the guard, and answers the line of the last.
-fn last_of<F: Field>(guard: &Setup<F>, cutter: &Flat, block: &mut [i32], count: i32) -> Answer {
-    let mut last = Answer::Nothing;
+    setup.add(clamp([2, 0, 2, 0, 50]))?;
+    let guard = setup.lock();
+    let cutter = Flat::new(100, 100)?;
+    milling::new(&grid, block)?;
+    let mut last = None;
     for p in POSES.iter().take(index(count)) {
         let [column, row, tip] = *p;
-        last = Answer::Said(Line::of_move(1, pose(guard, cutter, block, column, row, tip)));
+        let answer = pose(&guard, &cutter, block, column, row, tip);
+        last = Some(Line::Move { number: 1, answer });
     }
-    last
+    Ok(last)
 }

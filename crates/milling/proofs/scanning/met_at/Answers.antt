@@ -15,4 +15,4 @@ returns-then-underside-sample g c =
     let fu : SFits w32 u = search rules in
     let fz : SFits w32 z = search rules in
     let touch : u ≡ z = sym (to_z-of_z w32 u fu) ∙ ap (to_z w32) c.if-underside-sample.true ∙ to_z-of_z w32 z fz in
-    met_here c.args.p c.told-sample.result u _ c.in-Some.ensures c.told-sample.ensures c.underside.ensures touch c.contact.ensures
+    met_here c.args.p c.told-sample.result u _ c.in-Some.ensures c.told-sample.ensures c.underside.ensures touch c.into.ensures

@@ -11,4 +11,4 @@ pub loop-i-preserved : goal.loop-i-preserved
 loop-i-preserved g c = one_more _ _ _ _ _ c.loop-i.invariant (omega arith) c.told_at.ensures
 
 pub returns : goal.returns
-returns g c = done _ _ _ _ (g.F.Field.heights c.args.field.now) c.loop-i.invariant (omega arith)
+returns g c = done _ _ _ _ (g.met.F.Field.heights c.args.field.now) c.loop-i.invariant (omega arith)
