@@ -23,9 +23,11 @@ def table(crate, file, name):
     home = os.path.join(os.path.dirname(os.path.abspath(__file__)), "..", "crates", crate, "src", file)
     with open(home) as source:
         text = re.sub(r"//[^\n]*", "", source.read())
-    found = re.search(rf"const {name}: \[\[i32; (\d+)\]; (\d+)\] = \[(.*?)\];", text, re.S)
-    width, many = int(found[1]), int(found[2])
-    words = found[3].replace("i32::MIN", str(LOWEST)).replace("i32::MAX", str(HIGHEST))
+    found = re.search(rf"const {name}: \[(\(Kind, )?\[i32; (\d+)\]\)?; (\d+)\] = \[(.*?)\];", text, re.S)
+    width, many = int(found[2]) + (1 if found[1] else 0), int(found[3])
+    words = found[4].replace("i32::MIN", str(LOWEST)).replace("i32::MAX", str(HIGHEST))
+    for kind, word in enumerate(("Kind::Flat", "Kind::Cone", "Kind::Ball"), 1):
+        words = words.replace(word, str(kind))
     numbers = [int(n) for n in re.findall(r"-?\d+", words)]
     assert len(numbers) == width * many, (file, name)
     return [numbers[i:i + width] for i in range(0, len(numbers), width)]

@@ -120,13 +120,12 @@ const POINTS: [[i32; 11]; 92] = [
 
 // Prints each point with its facet, and the height there or nothing.
 pub(crate) fn print(rt: &HostRuntime) -> anyhow::Result<()> {
-    for row in POINTS.iter() {
+    for row in POINTS {
         rt.print("point")?;
         for n in row {
-            rt.print(" ")?;
-            rt.print(*n)?;
+            print!(rt; " {n}")?;
         }
-        let [x, y, ax, ay, az, bx, by, bz, cx, cy, cz] = *row;
+        let [x, y, ax, ay, az, bx, by, bz, cx, cy, cz] = row;
         let facet = facet([ax, ay, az], [bx, by, bz], [cx, cy, cz]);
         match facet.height_over(distance(x), distance(y)) {
             Some(height) => println!(rt; ": {height}")?,
@@ -146,15 +145,11 @@ pub(crate) fn facet(a: [i32; 3], b: [i32; 3], c: [i32; 3]) -> Facet {
 }
 
 // The vertex of x, y and z.
-fn vertex(numbers: [i32; 3]) -> Vertex {
-    let [x, y, z] = numbers;
+fn vertex([x, y, z]: [i32; 3]) -> Vertex {
     Vertex { x, y, z }
 }
 
 // The number as a distance in µm; a negative one stands for the greatest.
 fn distance(n: i32) -> u32 {
-    if n < 0 {
-        return u32::MAX;
-    }
-    n as u32
+    u32::try_from(n).unwrap_or(u32::MAX)
 }

@@ -1,6 +1,5 @@
 // A measured cutter, entry by entry.
 use crate::rounds::show;
-use anyhow::anyhow;
 use cutters::Measured;
 use zmap::Pitch;
 
@@ -32,10 +31,7 @@ const ENTRIES: [[i32; 3]; 22] = [
 
 // Prints what each entry answers, and the table before and after.
 pub(crate) fn print(rt: &HostRuntime) -> anyhow::Result<()> {
-    let Ok(pitch) = Pitch::new(100) else {
-        return Err(anyhow!("no pitch"));
-    };
-    let mut cutter = Measured::new(pitch);
+    let mut cutter = Measured::new(Pitch::new(100)?);
     println!(rt; "measured, new")?;
     show(rt, &cutter, -8, 8)?;
     for [dx, dy, height] in ENTRIES {

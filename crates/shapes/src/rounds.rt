@@ -1,45 +1,65 @@
 // Round cutters at their limits, and what they tell at every offset up to one past the reach.
 use cutters::{Ball, Cone, Cutter, Flat, RoundTool};
+use std::fmt;
 use zmap::{Fault, Offset};
 
-// Kind (1 flat, 2 cone, 3 ball), pitch, radius, tip radius and rise.
-const CUTTERS: [[i32; 5]; 31] = [
-    [1, 100, 100, 0, 0],
-    [1, 10, 159, 0, 0],
-    [1, 1000, 15999, 0, 0],
-    [2, 100, 500, 100, 1000],
-    [2, 10, 159, 0, 10000],
-    [2, 1000, 15999, 0, 10000],
-    [2, 1000, 15999, 15999, 10000],
-    [2, 1000, 15999, 15998, 10000],
-    [2, 333, 5000, 100, 0],
-    [2, 100, 1599, 1, 1],
-    [2, 10, 0, 0, 10000],
-    [2, 37, 590, 123, 4567],
-    [3, 100, 500, 0, 0],
-    [3, 1000, 15999, 0, 0],
-    [3, 10, 159, 0, 0],
-    [3, 10, 0, 0, 0],
-    [3, 333, 5327, 0, 0],
-    [3, 100, 1, 0, 0],
-    [1, 100, 1599, 0, 0],
-    [1, 100, 1600, 0, 0],
-    [3, 100, 1600, 0, 0],
-    [3, 9, 10, 0, 0],
-    [3, 100, -1, 0, 0],
-    [2, 1001, -1, -1, -1],
-    [2, 100, 1600, -1, -1],
-    [2, 100, 500, 501, -1],
-    [2, 100, 500, -1, -1],
-    [2, 100, 500, 0, -1],
-    [2, 100, 500, 0, 10001],
-    [2, 100, 500, 500, 10000],
-    [1, 1000, 16000, 0, 0],
+// The kinds of round cutters.
+#[derive(Clone, Copy)]
+enum Kind {
+    Flat,
+    Cone,
+    Ball,
+}
+
+// By their numbers: 1 flat, 2 cone, 3 ball.
+impl fmt::Display for Kind {
+    fn fmt<W: fmt::Write>(&self, f: &mut fmt::Formatter<W>) -> fmt::Result {
+        f.write_str(match self {
+            Kind::Flat => "1",
+            Kind::Cone => "2",
+            Kind::Ball => "3",
+        })
+    }
+}
+
+// Kind, pitch, radius, tip radius and rise.
+const CUTTERS: [(Kind, [i32; 4]); 31] = [
+    (Kind::Flat, [100, 100, 0, 0]),
+    (Kind::Flat, [10, 159, 0, 0]),
+    (Kind::Flat, [1000, 15999, 0, 0]),
+    (Kind::Cone, [100, 500, 100, 1000]),
+    (Kind::Cone, [10, 159, 0, 10000]),
+    (Kind::Cone, [1000, 15999, 0, 10000]),
+    (Kind::Cone, [1000, 15999, 15999, 10000]),
+    (Kind::Cone, [1000, 15999, 15998, 10000]),
+    (Kind::Cone, [333, 5000, 100, 0]),
+    (Kind::Cone, [100, 1599, 1, 1]),
+    (Kind::Cone, [10, 0, 0, 10000]),
+    (Kind::Cone, [37, 590, 123, 4567]),
+    (Kind::Ball, [100, 500, 0, 0]),
+    (Kind::Ball, [1000, 15999, 0, 0]),
+    (Kind::Ball, [10, 159, 0, 0]),
+    (Kind::Ball, [10, 0, 0, 0]),
+    (Kind::Ball, [333, 5327, 0, 0]),
+    (Kind::Ball, [100, 1, 0, 0]),
+    (Kind::Flat, [100, 1599, 0, 0]),
+    (Kind::Flat, [100, 1600, 0, 0]),
+    (Kind::Ball, [100, 1600, 0, 0]),
+    (Kind::Ball, [9, 10, 0, 0]),
+    (Kind::Ball, [100, -1, 0, 0]),
+    (Kind::Cone, [1001, -1, -1, -1]),
+    (Kind::Cone, [100, 1600, -1, -1]),
+    (Kind::Cone, [100, 500, 501, -1]),
+    (Kind::Cone, [100, 500, -1, -1]),
+    (Kind::Cone, [100, 500, 0, -1]),
+    (Kind::Cone, [100, 500, 0, 10001]),
+    (Kind::Cone, [100, 500, 500, 10000]),
+    (Kind::Flat, [1000, 16000, 0, 0]),
 ];
 
 // Prints the numbers of each cutter, and its heights or its refusal.
 pub(crate) fn print(rt: &HostRuntime) -> anyhow::Result<()> {
-    for [kind, pitch, radius, tip, rise] in CUTTERS {
+    for (kind, [pitch, radius, tip, rise]) in CUTTERS {
         println!(rt; "cutter {kind} {pitch} {radius} {tip} {rise}")?;
         match made(kind, pitch, radius, tip, rise) {
             Ok(cutter) => show(rt, &cutter, -16, 16)?,
@@ -53,11 +73,11 @@ pub(crate) fn print(rt: &HostRuntime) -> anyhow::Result<()> {
 }
 
 // The cutter of a kind, or its refusal.
-fn made(kind: i32, pitch: i32, radius: i32, tip: i32, rise: i32) -> Result<RoundTool, Fault> {
+fn made(kind: Kind, pitch: i32, radius: i32, tip: i32, rise: i32) -> Result<RoundTool, Fault> {
     match kind {
-        1 => Ok(RoundTool::Flat(Flat::new(pitch, radius)?)),
-        2 => Ok(RoundTool::Cone(Cone::new(pitch, radius, tip, rise)?)),
-        _ => Ok(RoundTool::Ball(Ball::new(pitch, radius)?)),
+        Kind::Flat => Flat::new(pitch, radius).map(RoundTool::Flat),
+        Kind::Cone => Cone::new(pitch, radius, tip, rise).map(RoundTool::Cone),
+        Kind::Ball => Ball::new(pitch, radius).map(RoundTool::Ball),
     }
 }
 
