@@ -1,6 +1,7 @@
 // Cutters behind one interface, and the order in which their offsets are scanned.
 #![tactic(auto)]
 
+mod amount;
 mod ball;
 mod cone;
 mod cutter;
@@ -15,6 +16,7 @@ mod table;
 pub use ball::Ball;
 pub use cone::Cone;
 pub use cutter::Cutter;
+pub use disc::Disc;
 pub use flat::Flat;
 pub use measured::Measured;
 pub use ring::offsets;
