@@ -8,6 +8,7 @@ mod cutter;
 mod disc;
 mod flat;
 mod measured;
+mod place;
 mod ring;
 mod round;
 mod row;
