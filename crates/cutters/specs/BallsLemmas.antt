@@ -6,7 +6,7 @@ use Rattle.std.proofs.lemmas.Bool.{cases_lt, le-leb, lt-leb}
 use Rattle.cutters.specs.Balls.{ball_height, ball_shape, BallStands, BallDrawn, RootUp}
 use Rattle.cutters.specs.Discs.{square, in_disc}
 use Rattle.cutters.specs.Profiles.{Lawful}
-use Rattle.cutters.specs.DiscsLemmas.{covered, disc_lawful, disc_le, square_centre}
+use Rattle.cutters.specs.DiscsLemmas.{covered, disc_lawful, disc_le, disc_past, square_centre}
 use Rattle.cutters.specs.LargestLemmas.{largest_below, largest_unique}
 use Rattle.zmap.specs.declared.node.Offset.{Offset}
 
@@ -59,3 +59,6 @@ ball_value p R o q h i e s = covered (in_disc p R o) _ h i (ap (ball_height R) (
 
 pub ball_drawn : (p R : ℕ) (o : Offset) (q h : ℕ) → in_disc p R o ≡ true → q ≡ square p o → BallStands R q h → BallDrawn p R o (Some h)
 ball_drawn p R o q h i e s = (disc_le p R o i, subst (λ x. BallStands R x h) e s)
+
+-- what a ball answers at an offset
+pub ruleset ball_drawing = (disc_past, disc_le, ball_value, ball_drawn)

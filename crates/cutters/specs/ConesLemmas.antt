@@ -6,7 +6,7 @@ use Rattle.std.proofs.lemmas.Bool.{cases_lt, cond_both, cond-true, cond-false, l
 use Rattle.cutters.specs.Cones.{cone_height, cone_shape, ConeStands, ConeDrawn}
 use Rattle.cutters.specs.Discs.{square, in_disc}
 use Rattle.cutters.specs.Profiles.{Lawful, centre}
-use Rattle.cutters.specs.DiscsLemmas.{covered, disc_lawful, disc_le, square_centre}
+use Rattle.cutters.specs.DiscsLemmas.{covered, disc_lawful, disc_le, disc_past, square_centre}
 use Rattle.cutters.specs.LargestLemmas.{largest_below, largest_unique}
 use Rattle.zmap.specs.declared.node.Offset.{Offset}
 
@@ -67,3 +67,9 @@ cone_value p R T S o q h i e b s =
 
 pub cone_drawn : (p R T S : ℕ) (o : Offset) (q h : ℕ) → in_disc p R o ≡ true → q ≡ square p o → ConeStands T S q h → ConeDrawn p R T S o (Some h)
 cone_drawn p R T S o q h i e s = (disc_le p R o i, subst (λ x. ConeStands T S x h) e s)
+
+-- what a cone answers at an offset
+pub ruleset cone_drawing = (disc_past, disc_le, cone_value, cone_drawn)
+
+-- the height from the whole part of the root
+pub ruleset cone_rising = (mul-le, root_below, cone_root, cone_level)

@@ -98,3 +98,6 @@ disc_lawful p R f h c b =
       reaches = λ o k e. elim (cases_Bool (in_disc p R o)) [ inl i ↦ disc_near p R o h i | inr i ↦ absurd (none_at (in_disc p R o) (f o) k i e) ];
       narrow = omega arith;
     }
+
+-- the square at an offset, and whether the disc covers it
+pub ruleset disc_squares = (far_x, far_y, disc_fits, disc_in, disc_out, square_told)
