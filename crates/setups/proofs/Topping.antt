@@ -1,15 +1,15 @@
 -- The height under clamps is the greatest of the height below and of the clamps over the sample. Assumes nothing.
-use Rattle.std.proofs.Common.{◌≡◌, zero, true, false, ◌⊎◌, List, [], ◌∷◌, ℤ, ◌≤ℤ◌, sym, refl, ap, ◌∙◌, subst, inl, inr, ⊎_elim, arith}
+use Rattle.std.proofs.Common.{◌≡◌, true, false, ◌⊎◌, List, [], ◌∷◌, ℤ, ◌≤ℤ◌, sym, refl, ap, ◌∙◌, subst, inl, inr, ⊎_elim, arith}
 use lib.Signed.{≤ℤ_refl}
 use Rattle.std.proofs.lemmas.Int.{ints, clamps}
 use Rattle.std.proofs.lemmas.Bool.{both_ways, cases_Bool, cond-true, cond-false}
 use Rattle.std.specs.Int.{int_max}
-use Rattle.zmap.proofs.Members.{has_cases, has_more, has_none}
+use Rattle.zmap.proofs.Members.{has_cases, has_first, has_more, has_none}
 use Rattle.zmap.specs.declared.class.Class.TheVariants.{Fixture}
 use Rattle.zmap.specs.declared.node.Node.{Node}
 use Rattle.zmap.specs.declared.sample.Sample.{Sample}
 use Rattle.setups.specs.declared.clamp.Clamp.{Clamp}
-use Rattle.setups.specs.LayerHeight.{layered_height, setup_layered}
+use Rattle.setups.specs.LayerHeight.{layered_height}
 use Rattle.setups.specs.Surfaces.{Stands, setup_sample}
 use Rattle.setups.proofs.Layering.{classed}
 use Rattle.setups.specs.Tables.{Tops, is_over, lifted, raised_by}
@@ -52,16 +52,11 @@ tops n z (k ∷ ks) =
           (has_cases k x ks has);
       reached =
           ⊎_elim
-          (λ e. ⊎_elim (λ m. inl (e ∙ m)) (λ m. inr (k, (zero, omega arith, λ _. refl), m.0, e ∙ m.1)) one.reached)
+          (λ e. ⊎_elim (λ m. inl (e ∙ m)) (λ m. inr (k, has_first k ks, m.0, e ∙ m.1)) one.reached)
           (λ r. inr (r.0, has_more k r.0 ks r.1, r.2, r.3))
           rest.reached;
     }
 
-pub stands : (ks : List Clamp) (n : Node) (s : Sample) → Stands ks n s (setup_sample ks n s)
-stands ks n s =
-    let r = raised_by n s.height ks in
-    let c = classed Fixture s r in
-    subst (Stands ks n s) (setup_layered ks n s) (record { height = subst (Tops n s.height ks) (sym (layered_height Fixture s r)) (tops n s.height ks); below = c.below; fixture = c.above })
-
 pub stands_as : {ks : List Clamp} {n : Node} {s t : Sample} → t ≡ setup_sample ks n s → Stands ks n s t
-stands_as {ks} {n} {s} e = subst (Stands ks n s) (sym e) (stands ks n s)
+stands_as {ks} {n} {s} e =
+    subst (Stands ks n s) (sym e) (record { height = subst (Tops n s.height ks) (sym (layered_height Fixture s _)) (tops n s.height ks); class = classed Fixture s _ })

@@ -1,6 +1,6 @@
 -- Under clamps whose heights are in range, so is every sample. Assumes nothing.
 use Rattle.std.specs.Prelude.{ℕ, suc, ◌<◌, List, [], ◌∷◌, length, take, ℤ, int_lt}
-use Rattle.std.proofs.Common.{suc-le-suc, sym, subst, arith}
+use Rattle.std.proofs.Common.{sym, subst, suc-le-suc, arith}
 use Rattle.std.proofs.lemmas.List.{length-take, get_or-take}
 use Rattle.std.proofs.lemmas.Bool.{cond_both}
 use Rattle.std.specs.Int.{int_max}
@@ -11,7 +11,7 @@ use Rattle.zmap.specs.declared.sample.Sample.{Sample}
 use Rattle.setups.specs.declared.clamp.Clamp.{Clamp}
 use Rattle.setups.specs.declared.table.Clamps.{Clamps}
 use Rattle.setups.specs.Clamps.{High}
-use Rattle.setups.specs.LayerHeight.{layered_height, setup_layered}
+use Rattle.setups.specs.LayerHeight.{layered_height}
 use Rattle.setups.specs.Surfaces.{setup_sample}
 use Rattle.setups.specs.Tables.{clamps_of, is_over, lifted, raised_by}
 
@@ -35,6 +35,4 @@ raised_in_range n z (k ∷ ks) h hs =
 
 pub setup_in_range : (t : Clamps) (n : Node) (s : Sample) → Height s.height → Height (setup_sample (clamps_of t) n s).height
 setup_in_range t n s h =
-    let ks = clamps_of t in
-    let high : Height (raised_by n s.height ks) = raised_in_range n s.height ks h (high_take t.count t.entries t.high) in
-    subst (λ (x : Sample). Height x.height) (setup_layered ks n s) (subst Height (sym (layered_height Fixture s (raised_by n s.height ks))) high)
+    subst Height (sym (layered_height Fixture s (raised_by n s.height (clamps_of t)))) (raised_in_range n s.height (clamps_of t) h (high_take t.count t.entries t.high))

@@ -10,11 +10,16 @@ impl Clamps {
     pub(crate) fn over(&self, n: Node, below: i32) -> i32
         ensures { result ≡ raised_by n below (clamps_of self.now) }
     {
-        let mut height = below;
-        for i in 0..self.count {
-            height = lifted(n, height, self.entries[i]);
-        }
-        height
+        self.standing()
+            .iter()
+            .fold(below, |height, clamp| lifted(n, height, *clamp))
+    }
+
+    // The clamps by their numbers, without the spare entries.
+    fn standing(&self) -> &[Clamp]
+        ensures { result.now ≡ clamps_of self.now }
+    {
+        &self.entries[..self.count]
     }
 }
 
@@ -41,5 +46,5 @@ fn holds(span: Span, index: usize) -> bool
     ensures { result ≡ is_in span index }
 {
     let x = index as i128;
-    span.first as i128 <= x && x <= span.last as i128
+    i128::from(span.first) <= x && x <= i128::from(span.last)
 }
