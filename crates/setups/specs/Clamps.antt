@@ -1,5 +1,6 @@
 -- When a clamp is refused. Assumes nothing.
 use Rattle.std.specs.Prelude.{ℕ, ◌<◌, Bool, cond, ◌&&◌, List, length, ℤ, pos, Some, None, Option, int_le, int_lt, nat_lt, slice_index_or}
+use Rattle.std.specs.List.{All}
 use Rattle.zmap.specs.Faults.{or_else}
 use Rattle.zmap.specs.Limits.{Height, is_height}
 use Rattle.zmap.specs.declared.grid.Grid.{Grid}
@@ -26,4 +27,4 @@ raising_fault ks i z = cond (is_height z) (cond (nat_lt i (length ks)) None (Som
 
 -- every clamp's height is in range
 abbrev pub High : List Clamp → Type 0
-High ks = (i : ℕ) (d : Clamp) → i < length ks → Height (slice_index_or ks i d).height
+High ks = All (λ k. Height k.height) ks

@@ -1,5 +1,5 @@
 // The table of clamps inside a set-up.
-ghost use Rattle.std.specs.Prelude.{◌≡◌, ◌≤◌, length};
+ghost use Rattle.std.specs.Prelude.{◌≤◌};
 ghost use Rattle.setups.specs.Clamps.{High};
 
 use crate::Clamp;
@@ -14,6 +14,5 @@ pub(crate) struct Clamps {
     entries: [Clamp; 16],
     count: usize,
     ghost few: { count ≤ 16 },
-    ghost sized: { length entries ≡ 16 },
     ghost high: { High entries },
 }
