@@ -1,9 +1,7 @@
 -- The height under clamps is the greatest of the height below and of the clamps over the sample. Assumes nothing.
-use Rattle.std.proofs.Common.{◌≡◌, zero, suc, suc-le-suc, true, false, ◌⊎◌, List, [], ◌∷◌, ℤ, ◌≤ℤ◌, sym, refl, ap, ◌∙◌, subst, inl, inr, ⊎_elim, arith}
+use Rattle.std.proofs.Common.{◌≡◌, zero, suc, suc-le-suc, true, ◌⊎◌, List, [], ◌∷◌, ℤ, ◌≤ℤ◌, sym, refl, ◌∙◌, subst, inl, inr, ⊎_elim, arith}
 use lib.Signed.{≤ℤ_refl}
-use Rattle.std.proofs.lemmas.Int.{ints, clamps}
-use Rattle.std.proofs.lemmas.Bool.{both_ways, cond_both}
-use Rattle.std.specs.Int.{int_max}
+use Rattle.std.proofs.lemmas.Int.{ints}
 use Rattle.std.proofs.lemmas.List.Elements.{All-nil, All-cons}
 use Rattle.zmap.specs.declared.class.Class.TheVariants.{Fixture}
 use Rattle.zmap.specs.declared.node.Node.{Node}
@@ -14,9 +12,6 @@ use Rattle.setups.specs.Surfaces.{Stands, setup_sample}
 use Rattle.setups.proofs.Layering.{classed}
 use Rattle.setups.specs.Tables.{Tops, is_over, lifted, raised_by}
 
-max_either : (x y : ℤ) → (int_max x y ≡ x) ⊎ (int_max x y ≡ y)
-max_either x y = grind (arith, ints)
-
 -- what one clamp makes of the height z
 record Lifts (n : Node) (z : ℤ) (k : Clamp) (h : ℤ) : Type 0 where
   above : z ≤ℤ h
@@ -24,10 +19,7 @@ record Lifts (n : Node) (z : ℤ) (k : Clamp) (h : ℤ) : Type 0 where
   reached : (h ≡ z) ⊎ ((is_over k n ≡ true) × (h ≡ k.height))
 
 lifts : (n : Node) (z : ℤ) (k : Clamp) → Lifts n z k (lifted n z k)
-lifts n z k =
-    cond_both (is_over k n) (int_max z k.height) z (Lifts n z k)
-    (λ t. record { above = omega (arith, ints, clamps); over = λ _. omega (arith, ints, clamps); reached = ⊎_elim inl (λ m. inr (t, m)) (max_either z k.height) })
-    (λ f. record { above = ≤ℤ_refl z; over = λ t. absurd (both_ways (is_over k n) f t); reached = inl refl })
+lifts n z k = record { above = grind (arith, ints); over = λ t. grind (arith, ints); reached = grind (arith, ints) }
 
 pub tops : (n : Node) (z : ℤ) (ks : List Clamp) → Tops n z ks (raised_by n z ks)
 tops n z [] = record { above = ≤ℤ_refl z; over = All-nil _; reached = inl refl }

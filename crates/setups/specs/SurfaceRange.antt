@@ -1,9 +1,8 @@
 -- Under clamps whose heights are in range, so is every sample. Assumes nothing.
-use Rattle.std.specs.Prelude.{ℕ, suc, ◌<◌, List, [], ◌∷◌, length, take, ℤ, int_lt}
-use Rattle.std.proofs.Common.{sym, subst, suc-le-suc, arith}
+use Rattle.std.specs.Prelude.{List, [], ◌∷◌, ℤ}
+use Rattle.std.proofs.Common.{sym, subst, arith}
 use Rattle.std.proofs.lemmas.List.Elements.{All-tail, All-take}
-use Rattle.std.proofs.lemmas.Bool.{cond_both}
-use Rattle.std.specs.Int.{int_max}
+use Rattle.std.proofs.lemmas.Int.{ints}
 use Rattle.zmap.specs.Limits.{Height}
 use Rattle.zmap.specs.declared.class.Class.TheVariants.{Fixture}
 use Rattle.zmap.specs.declared.node.Node.{Node}
@@ -13,13 +12,10 @@ use Rattle.setups.specs.declared.table.Clamps.{Clamps}
 use Rattle.setups.specs.Clamps.{High}
 use Rattle.setups.specs.LayerHeight.{layered_height}
 use Rattle.setups.specs.Surfaces.{setup_sample}
-use Rattle.setups.specs.Tables.{clamps_of, is_over, lifted, raised_by}
+use Rattle.setups.specs.Tables.{clamps_of, lifted, raised_by}
 
 lifted_in_range : (n : Node) (z : ℤ) (k : Clamp) → Height z → Height k.height → Height (lifted n z k)
-lifted_in_range n z k h hk =
-    cond_both (is_over k n) (int_max z k.height) z Height
-    (λ _. cond_both (int_lt k.height z) z k.height Height (λ _. h) (λ _. hk))
-    (λ _. h)
+lifted_in_range n z k h hk = grind (arith, ints)
 
 raised_in_range : (n : Node) (z : ℤ) (ks : List Clamp) → Height z → High ks → Height (raised_by n z ks)
 raised_in_range n z [] h hs = h
