@@ -9,6 +9,7 @@ mod raising;
 mod standing;
 
 // Sixteen entries, of which the first so many are clamps; every entry's height is in range.
+// An array and a count: a table asks for no memory, and one clamp of it changes through `&mut self`.
 #[derive(Clone, Copy)]
 pub(crate) struct Clamps {
     entries: [Clamp; 16],

@@ -31,7 +31,7 @@ impl<F: Field> Field for Allowance<F> {
     }
 }
 
-// The height with the stock on it, under the ceiling.
+// Answers the height with the stock on it, under the ceiling.
 fn stocked(height: i32, stock: Stock) -> i32
     requires { Height height }
     ensures { result ≡ stocked stock.microns height }
