@@ -1,24 +1,15 @@
 -- The sample that an allowance tells. Assumes nothing.
-use Rattle.std.proofs.Common.{◌≡◌, ℕ, ◌⊎◌, ℤ, pos, ◌+ℤ◌, sym, ap, ◌∙◌, subst, arith}
-use Rattle.std.proofs.lemmas.Int.{ints, clamps}
-use Rattle.zmap.specs.Limits.{ceiling}
+use Rattle.std.proofs.Common.{◌≡◌, ℕ, ℤ, sym, subst, arith}
+use Rattle.std.proofs.lemmas.Int.{ints}
 use Rattle.zmap.specs.declared.class.Class.TheVariants.{Allowance}
 use Rattle.zmap.specs.declared.sample.Sample.{Sample}
 use Rattle.setups.specs.LayerHeight.{layered_height}
-use Rattle.setups.specs.Layers.{layered}
 use Rattle.setups.specs.Stocks.{Carries, Raises, stocked, stocked_sample}
 use Rattle.setups.proofs.Layering.{classed}
 
-either : (a : ℕ) (z : ℤ) → (stocked a z ≡ ceiling) ⊎ (stocked a z ≡ z +ℤ pos a)
-either a z = grind (arith, ints)
-
 raises : (a : ℕ) (z : ℤ) → Raises a z (stocked a z)
-raises a z = record { under = omega (arith, ints, clamps); most = omega (arith, ints, clamps); either = either a z }
+raises a z = record { under = grind (arith, ints); most = grind (arith, ints); either = grind (arith, ints) }
 
 pub carries_as : {a : ℕ} {s t : Sample} → t ≡ stocked_sample a s → Carries a s t
 carries_as {a} {s} e =
     subst (Carries a s) (sym e) (record { height = subst (Raises a s.height) (sym (layered_height Allowance s _)) (raises a s.height); class = classed Allowance s _ })
-
--- the sample s below, which is what the field tells, at the height h with the stock on it
-pub under_stock : (a : ℕ) {s s' t : Sample} {h : ℤ} → s ≡ s' → h ≡ stocked a s.height → t ≡ layered Allowance s h → t ≡ stocked_sample a s'
-under_stock a {s} same is e = e ∙ ap (layered Allowance s) is ∙ ap (stocked_sample a) same

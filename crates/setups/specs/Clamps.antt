@@ -1,5 +1,6 @@
 -- When a clamp is refused. Assumes nothing.
-use Rattle.std.specs.Prelude.{ℕ, ◌<◌, Bool, cond, ◌&&◌, List, length, ℤ, pos, Some, None, Option, int_le, int_lt, nat_lt, slice_index_or}
+use Rattle.std.specs.Prelude.{◌≡◌, ℕ, Bool, cond, ◌&&◌, List, length, ℤ, pos, Some, None, Option, Result, MatchResult, int_le, int_lt, nat_lt}
+use Rattle.std.specs.List.{All}
 use Rattle.zmap.specs.Faults.{or_else}
 use Rattle.zmap.specs.Limits.{Height, is_height}
 use Rattle.zmap.specs.declared.grid.Grid.{Grid}
@@ -7,6 +8,10 @@ use Rattle.zmap.specs.declared.fault.Fault.{Fault}
 use Rattle.zmap.specs.declared.fault.Fault.TheVariants as fault
 use Rattle.setups.specs.declared.clamp.Clamp.{Clamp}
 use Rattle.setups.specs.declared.clamp.Span.{Span}
+
+-- a call was refused by this fault, or by none
+abbrev pub FaultIs : {A : Type 0} → Result A Fault → Option Fault → Type 0
+FaultIs r f = MatchResult r (λ _. f ≡ None) (λ e. f ≡ Some e)
 
 -- whether a span lies on a map of so many columns, or rows, and does not run backward
 abbrev pub is_span : Span → ℕ → Bool
@@ -26,4 +31,4 @@ raising_fault ks i z = cond (is_height z) (cond (nat_lt i (length ks)) None (Som
 
 -- every clamp's height is in range
 abbrev pub High : List Clamp → Type 0
-High ks = (i : ℕ) (d : Clamp) → i < length ks → Height (slice_index_or ks i d).height
+High ks = All (λ k. Height k.height) ks

@@ -1,8 +1,11 @@
 -- What a layer makes of the sample below it, whatever height it gives. Assumes nothing.
-use Rattle.std.specs.Prelude.{◌≡◌, cond, ℤ, ◌≢◌}
+use Rattle.std.specs.Prelude.{◌≡◌, Bool, cond, ◌&&◌, ℤ, ◌≢◌, int_le}
 use Rattle.zmap.specs.declared.class.Class.{Class}
 use Rattle.zmap.specs.declared.sample.Sample.{Sample}
-use Rattle.setups.specs.Surfaces.{same_height}
+
+-- whether two heights are the same
+abbrev pub same_height : ℤ → ℤ → Bool
+same_height a b = int_le a b && int_le b a
 
 -- the sample s below, or one of the class k at the height h where that is not the height of s
 unfoldable pub layered : Class → Sample → ℤ → Sample

@@ -1,9 +1,8 @@
 -- Under clamps whose heights are in range, so is every sample. Assumes nothing.
-use Rattle.std.specs.Prelude.{ℕ, suc, ◌<◌, List, [], ◌∷◌, length, take, ℤ, int_lt}
-use Rattle.std.proofs.Common.{suc-le-suc, sym, subst, arith}
-use Rattle.std.proofs.lemmas.List.{length-take, get_or-take}
-use Rattle.std.proofs.lemmas.Bool.{cond_both}
-use Rattle.std.specs.Int.{int_max}
+use Rattle.std.specs.Prelude.{List, [], ◌∷◌, ℤ}
+use Rattle.std.proofs.Common.{sym, subst, arith}
+use Rattle.std.proofs.lemmas.List.Elements.{All-tail, All-take}
+use Rattle.std.proofs.lemmas.Int.{ints}
 use Rattle.zmap.specs.Limits.{Height}
 use Rattle.zmap.specs.declared.class.Class.TheVariants.{Fixture}
 use Rattle.zmap.specs.declared.node.Node.{Node}
@@ -11,30 +10,18 @@ use Rattle.zmap.specs.declared.sample.Sample.{Sample}
 use Rattle.setups.specs.declared.clamp.Clamp.{Clamp}
 use Rattle.setups.specs.declared.table.Clamps.{Clamps}
 use Rattle.setups.specs.Clamps.{High}
-use Rattle.setups.specs.LayerHeight.{layered_height, setup_layered}
+use Rattle.setups.specs.LayerHeight.{layered_height}
 use Rattle.setups.specs.Surfaces.{setup_sample}
-use Rattle.setups.specs.Tables.{clamps_of, is_over, lifted, raised_by}
-
-high_take : (n : ℕ) (ks : List Clamp) → High ks → High (take n ks)
-high_take n ks h i d lt =
-    let lt' = simp length-take at lt in
-    let below : i < n = omega arith in
-    let inside : i < length ks = omega arith in
-    rw get_or-take (h i d inside)
+use Rattle.setups.specs.Tables.{clamps_of, lifted, raised_by}
 
 lifted_in_range : (n : Node) (z : ℤ) (k : Clamp) → Height z → Height k.height → Height (lifted n z k)
-lifted_in_range n z k h hk =
-    cond_both (is_over k n) (int_max z k.height) z Height
-    (λ _. cond_both (int_lt k.height z) z k.height Height (λ _. h) (λ _. hk))
-    (λ _. h)
+lifted_in_range n z k h hk = grind (arith, ints)
 
 raised_in_range : (n : Node) (z : ℤ) (ks : List Clamp) → Height z → High ks → Height (raised_by n z ks)
 raised_in_range n z [] h hs = h
 raised_in_range n z (k ∷ ks) h hs =
-    raised_in_range n (lifted n z k) ks (lifted_in_range n z k h (hs 0 k (omega arith))) (λ i d lt. hs (suc i) d (suc-le-suc lt))
+    raised_in_range n (lifted n z k) ks (lifted_in_range n z k h (hs 0 k (omega arith))) (All-tail (λ x. Height x.height) k ks hs)
 
 pub setup_in_range : (t : Clamps) (n : Node) (s : Sample) → Height s.height → Height (setup_sample (clamps_of t) n s).height
 setup_in_range t n s h =
-    let ks = clamps_of t in
-    let high : Height (raised_by n s.height ks) = raised_in_range n s.height ks h (high_take t.count t.entries t.high) in
-    subst (λ (x : Sample). Height x.height) (setup_layered ks n s) (subst Height (sym (layered_height Fixture s (raised_by n s.height ks))) high)
+    subst Height (sym (layered_height Fixture s (raised_by n s.height (clamps_of t)))) (raised_in_range n s.height (clamps_of t) h (All-take (λ x. Height x.height) t.count t.entries t.high))

@@ -1,7 +1,7 @@
 -- The clamps of a table, and how high they stand over a sample. Assumes nothing.
 use Rattle.std.specs.Prelude.{◌≡◌, ℕ, Bool, true, cond, ◌&&◌, ◌⊎◌, List, length, take, ℤ, pos, ◌≤ℤ◌, fold, ◌≢◌, int_le, slice_index_or}
 use Rattle.std.specs.Int.{int_max}
-use Rattle.std.specs.List.{ContainsAt as Has}
+use Rattle.std.specs.List.{All, Any}
 use Rattle.zmap.specs.declared.node.Node.{Node}
 use Rattle.setups.specs.declared.clamp.Clamp.{Clamp}
 use Rattle.setups.specs.declared.clamp.Span.{Span}
@@ -40,5 +40,5 @@ raised_by n z ks = fold (lifted n) z ks
 -- h is the greatest of the height z and of the clamps over n
 pub record Tops (n : Node) (z : ℤ) (ks : List Clamp) (h : ℤ) : Type 0 where
   pub above : z ≤ℤ h
-  pub over : (k : Clamp) → Has ks k → is_over k n ≡ true → k.height ≤ℤ h
-  pub reached : (h ≡ z) ⊎ ((k : Clamp) × Has ks k × (is_over k n ≡ true) × (h ≡ k.height))
+  pub over : All (λ k. is_over k n ≡ true → k.height ≤ℤ h) ks
+  pub reached : (h ≡ z) ⊎ Any (λ k. (is_over k n ≡ true) × (h ≡ k.height)) ks

@@ -1,6 +1,7 @@
 // Clamps as they are asked for, in plain numbers.
 
 mod checking;
+mod covering;
 
 // The columns, or the rows, from the first to the last, both included.
 #[derive(Clone, Copy)]

@@ -4,12 +4,14 @@ ghost use Rattle.setups.specs.Layers.{layered};
 
 use zmap::{Class, Sample};
 
-// The sample below at the height that a layer gives, of the layer's class where that is another height.
+// Answers the sample below at the height that a layer gives, of the layer's class where that is another height.
+#[tactic(auto, unfolding(crate::specs::Layers::layered))]
 pub(crate) fn layered(class: Class, below: Sample, height: i32) -> Sample
     ensures { result ≡ layered class below height }
 {
     if height == below.height {
-        return below;
+        below
+    } else {
+        Sample { height, class }
     }
-    Sample { height, class }
 }

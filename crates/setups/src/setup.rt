@@ -11,7 +11,7 @@ pub struct OpenSetup<F> {
     clamps: Clamps,
 }
 
-// A field and the clamps over it, for good.
+// A field and the clamps over it, for good; a type of its own, so that an open set-up is no field and a locked one takes no clamp.
 #[derive(Drop)]
 pub struct Setup<F> {
     below: F,

@@ -25,15 +25,13 @@ impl<F: Field> Field for Allowance<F> {
         ensures value { MatchOption result (On (F.Field.extent self.now.below) n → ⊥) (λ s. On (F.Field.extent self.now.below) n × (s ≡ stocked_sample self.now.stock.microns (F.Field.surface self.now.below n))) }
         ensures carries { IfSome result (λ s. Carries self.now.stock.microns (F.Field.surface self.now.below n) s) }
     {
-        let Some(below) = self.below.sample(n) else {
-            return None;
-        };
+        let below = self.below.sample(n)?;
         let height = stocked(below.height, self.stock);
         Some(layered(Class::Allowance, below, height))
     }
 }
 
-// The height with the stock on it, under the ceiling.
+// Answers the height with the stock on it, under the ceiling.
 fn stocked(height: i32, stock: Stock) -> i32
     requires { Height height }
     ensures { result ≡ stocked stock.microns height }

@@ -1,13 +1,13 @@
 // The open set-up: clamps are added, raised and lowered, until it is locked.
-ghost use Rattle.std.specs.Prelude.{◌≡◌, [], ◌∷◌, ◌++◌, length, IfOk, Some, None, MatchResult};
-ghost use Rattle.setups.specs.Clamps.{adding_fault, raising_fault};
+ghost use Rattle.std.specs.Prelude.{◌≡◌, [], ◌∷◌, ◌++◌, length, IfOk, MatchResult};
+ghost use Rattle.setups.specs.Clamps.{FaultIs, adding_fault, raising_fault};
 ghost use Rattle.setups.specs.Tables.{clamps_of, Raised};
 
 use crate::{Clamp, Clamps, OpenSetup, Setup};
 use zmap::{Fault, Field};
 
 impl<F: Field> OpenSetup<F> {
-    // A set-up over the field, with no clamp yet.
+    // Makes a set-up over the field, with no clamp yet.
     pub fn new(below: F) -> OpenSetup<F>
         ensures { (result.below ≡ below) × (clamps_of result.clamps ≡ []) }
     {
@@ -17,27 +17,26 @@ impl<F: Field> OpenSetup<F> {
         }
     }
 
-    // The clamp under the next number, which is answered; or the first refusal, and the set-up as it was.
+    // Adds the clamp under the next number and answers that; or answers the first refusal, and leaves the set-up as it was.
     pub fn add(&mut self, clamp: Clamp) -> Result<usize, Fault>
-        ensures accepts { MatchResult result (λ i. adding_fault (F.Field.extent self.old.below) (clamps_of self.old.clamps) clamp ≡ None) (λ e. adding_fault (F.Field.extent self.old.below) (clamps_of self.old.clamps) clamp ≡ Some e) }
+        ensures accepts { FaultIs result (adding_fault (F.Field.extent self.old.below) (clamps_of self.old.clamps) clamp) }
         ensures number { IfOk result (λ i. i ≡ length (clamps_of self.old.clamps)) }
         ensures table { MatchResult result (λ i. clamps_of self.new.clamps ≡ clamps_of self.old.clamps ++ clamp ∷ []) (λ e. self.new.clamps ≡ self.old.clamps) }
         ensures rest { self.new.below ≡ self.old.below }
     {
-        let grid = self.below.grid();
-        self.clamps.add(&grid, clamp)
+        self.clamps.add(&self.below.grid(), clamp)
     }
 
-    // The clamp of that number at that height; or the first refusal, and the set-up as it was.
+    // Brings the clamp of that number to that height; or answers the first refusal, and leaves the set-up as it was.
     pub fn raise(&mut self, number: usize, height: i32) -> Result<(), Fault>
-        ensures accepts { MatchResult result (λ _. raising_fault (clamps_of self.old.clamps) number height ≡ None) (λ e. raising_fault (clamps_of self.old.clamps) number height ≡ Some e) }
+        ensures accepts { FaultIs result (raising_fault (clamps_of self.old.clamps) number height) }
         ensures table { MatchResult result (λ _. Raised (clamps_of self.old.clamps) number height (clamps_of self.new.clamps)) (λ e. self.new.clamps ≡ self.old.clamps) }
         ensures rest { self.new.below ≡ self.old.below }
     {
         self.clamps.raise(number, height)
     }
 
-    // The same field and clamps, locked.
+    // Locks the set-up, with the same field and clamps.
     pub fn lock(self) -> Setup<F>
         ensures { (result.below ≡ self.below) × (result.clamps ≡ self.clamps) }
     {

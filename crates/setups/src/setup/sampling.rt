@@ -6,6 +6,7 @@ ghost use Rattle.setups.specs.Surfaces.{Stands, guard_surface, setup_sample};
 ghost use Rattle.setups.specs.Tables.{clamps_of};
 
 use crate::Setup;
+use crate::layer::layered;
 use zmap::{Class, Field, Grid, Node, Sample};
 
 impl<F: Field> Field for Setup<F> {
@@ -23,16 +24,8 @@ impl<F: Field> Field for Setup<F> {
         ensures value { MatchOption result (On (F.Field.extent self.now.below) n → ⊥) (λ s. On (F.Field.extent self.now.below) n × (s ≡ setup_sample (clamps_of self.now.clamps) n (F.Field.surface self.now.below n))) }
         ensures stands { IfSome result (λ s. Stands (clamps_of self.now.clamps) n (F.Field.surface self.now.below n) s) }
     {
-        let Some(below) = self.below.sample(n) else {
-            return None;
-        };
+        let below = self.below.sample(n)?;
         let height = self.clamps.over(n, below.height);
-        if height == below.height {
-            return Some(below);
-        }
-        Some(Sample {
-            height,
-            class: Class::Fixture,
-        })
+        Some(layered(Class::Fixture, below, height))
     }
 }

@@ -6,7 +6,7 @@ use crate::Stock;
 use zmap::Fault;
 
 impl Stock {
-    // A stock of so many µm, or a refusal where that is not 0 to 100,000.
+    // Makes a stock of so many µm, or refuses where that is not 0 to 100,000.
     pub fn new(microns: i32) -> Result<Stock, Fault>
         ensures { MatchResult result (λ a. (stock_fault microns ≡ None) × (pos a.microns ≡ microns)) (λ e. stock_fault microns ≡ Some e) }
     {

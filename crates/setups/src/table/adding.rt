@@ -1,6 +1,6 @@
 // New clamps.
-ghost use Rattle.std.specs.Prelude.{◌≡◌, ◌<◌, [], ◌∷◌, ◌++◌, length, IfOk, Some, None, MatchResult};
-ghost use Rattle.setups.specs.Clamps.{adding_fault};
+ghost use Rattle.std.specs.Prelude.{◌≡◌, ◌<◌, [], ◌∷◌, ◌++◌, length, IfOk, MatchResult};
+ghost use Rattle.setups.specs.Clamps.{FaultIs, adding_fault};
 ghost use Rattle.setups.specs.Tables.{clamps_of};
 
 use crate::{Clamp, Clamps, Span};
@@ -8,7 +8,7 @@ use zmap::heights::FLOOR;
 use zmap::{Fault, Grid};
 
 impl Clamps {
-    // A table with no clamp.
+    // Makes a table with no clamp.
     pub(crate) fn new() -> Clamps
         ensures { clamps_of result ≡ [] }
     {
@@ -23,9 +23,9 @@ impl Clamps {
         }
     }
 
-    // The clamp under the next number, which is answered; or the first refusal, and the table as it was.
+    // Adds the clamp under the next number and answers that; or answers the first refusal, and leaves the table as it was.
     pub(crate) fn add(&mut self, grid: &Grid, clamp: Clamp) -> Result<usize, Fault>
-        ensures accepts { MatchResult result (λ i. adding_fault grid.now (clamps_of self.old) clamp ≡ None) (λ e. adding_fault grid.now (clamps_of self.old) clamp ≡ Some e) }
+        ensures accepts { FaultIs result (adding_fault grid.now (clamps_of self.old) clamp) }
         ensures number { IfOk result (λ i. i ≡ length (clamps_of self.old)) }
         ensures table { MatchResult result (λ i. clamps_of self.new ≡ clamps_of self.old ++ clamp ∷ []) (λ e. self.new ≡ self.old) }
     {

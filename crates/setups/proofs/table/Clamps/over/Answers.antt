@@ -1,13 +1,13 @@
--- One clamp more.
-use Rattle.std.proofs.Common.{◌<◌, length, arith, w32, SFits, rules}
+-- The fold of the code is that of the clamps.
+use Rattle.std.proofs.Common.{rules, w32, SFits}
 use Rattle.std.proofs.lemmas.Int.{to_z-of_z}
-use Rattle.setups.proofs.Surfacing.{raised_more}
+use Rattle.std.proofs.lemmas.Iterator.{YieldsList-from_slice}
+use Rattle.std.proofs.lemmas.Iterator.Consumers.{fold_from_yields_List}
+use Rattle.setups.specs.Tables.{clamps_of, lifted}
 use Rattle.setups.proofs.table.Clamps.over.Goals as goal
 
-pub loop-i-preserved : goal.loop-i-preserved
-loop-i-preserved c =
-    let t = c.args.self.now in
-    let f : SFits w32 c.lifted-height.result = search rules in
-    let lt : c.loop-i.i < length t.entries = omega (arith, t.few, t.sized) in
-    let more = raised_more _ _ t.entries c.loop-i.i _ _ _ lt c.loop-i.invariant c.lifted-height.ensures in
-    simp (to_z-of_z w32 c.lifted-height.result f) more
+pub returns : goal.returns
+returns c =
+    let fits : SFits w32 c.fold.result = search rules in
+    let low : SFits w32 c.args.below = c.ranges.below in
+    simp to_z-of_z (fold_from_yields_List _ (lifted c.args.n) c.args.below c.fold.result (simp to_z-of_z at c.fold.ensures.ran) (YieldsList-from_slice (clamps_of c.args.self.now) cc) (λ a x b q k. search rules))
