@@ -10,13 +10,13 @@ use zmap::{Offset, Pitch};
 
 // Round from the tip out to the radius, and covers nothing past it.
 impl Cutter for Ball {
-    const REACH: i32 = 15;
+    const REACH: u32 = 15;
+
+    ghost REACH = { 15 };
 
     ghost spacing = { λ t. t.pitch.microns };
 
     ghost shape = { λ t. ball_shape t.pitch.microns t.radius };
-
-    ghost widest = { λ t. 15 };
 
     ghost lawful = { λ t. ball_lawful t.pitch.microns t.radius t.slim t.near };
 
@@ -32,9 +32,5 @@ impl Cutter for Ball {
             return None;
         };
         Some(ball_height(self.radius, square))
-    }
-
-    fn widest_reach(&self) -> i32 {
-        Self::REACH
     }
 }

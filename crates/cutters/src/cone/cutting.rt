@@ -10,13 +10,13 @@ use zmap::{Offset, Pitch};
 
 // Level up to the tip radius, then rising, and covers nothing past the radius.
 impl Cutter for Cone {
-    const REACH: i32 = 15;
+    const REACH: u32 = 15;
+
+    ghost REACH = { 15 };
 
     ghost spacing = { λ t. t.pitch.microns };
 
     ghost shape = { λ t. cone_shape t.pitch.microns t.radius t.tip t.rise };
-
-    ghost widest = { λ t. 15 };
 
     ghost lawful = { λ t. cone_lawful t.pitch.microns t.radius t.tip t.rise t.near };
 
@@ -32,9 +32,5 @@ impl Cutter for Cone {
             return None;
         };
         Some(cone_height(self.tip, self.rise, square))
-    }
-
-    fn widest_reach(&self) -> i32 {
-        Self::REACH
     }
 }

@@ -9,13 +9,13 @@ use zmap::{Offset, Pitch};
 
 // Level over the disc, and covers nothing past it.
 impl Cutter for Flat {
-    const REACH: i32 = 15;
+    const REACH: u32 = 15;
+
+    ghost REACH = { 15 };
 
     ghost spacing = { λ t. t.pitch.microns };
 
     ghost shape = { λ t. flat_shape t.pitch.microns t.radius };
-
-    ghost widest = { λ t. 15 };
 
     ghost lawful = { λ t. flat_lawful t.pitch.microns t.radius t.near };
 
@@ -31,9 +31,5 @@ impl Cutter for Flat {
             return None;
         };
         Some(0)
-    }
-
-    fn widest_reach(&self) -> i32 {
-        Self::REACH
     }
 }

@@ -10,13 +10,13 @@ use zmap::{Offset, Pitch};
 
 // As its kind.
 impl Cutter for RoundTool {
-    const REACH: i32 = 15;
+    const REACH: u32 = 15;
+
+    ghost REACH = { 15 };
 
     ghost spacing = { round_spacing };
 
     ghost shape = { round_shape };
-
-    ghost widest = { λ t. 15 };
 
     ghost lawful = { elim [
       | Flat t ↦ flat_lawful t.pitch.microns t.radius t.near
@@ -38,9 +38,5 @@ impl Cutter for RoundTool {
             RoundTool::Cone(t) => t.profile(o),
             RoundTool::Ball(t) => t.profile(o),
         }
-    }
-
-    fn widest_reach(&self) -> i32 {
-        Self::REACH
     }
 }
