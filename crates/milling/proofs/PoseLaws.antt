@@ -11,8 +11,8 @@ use Rattle.cutters.specs.Profiles.{Lawful, Profile, centre}
 use Rattle.setups.specs.Surfaces.{Guard}
 use Rattle.milling.specs.Calls.{Posed, Tool}
 use Rattle.milling.specs.Checks.{Check, Passed, Refused, covers_some, formed, invades_none, node_at, pose_at}
-use Rattle.milling.specs.Cuts.{Carved, Clears, Contacts, First, Only, Under}
-use Rattle.milling.specs.Losses.{fall, fallen, summed}
+use Rattle.milling.specs.Cuts.{Carved, Clears, First, Only, Under}
+use Rattle.milling.specs.Losses.{Removes}
 use Rattle.milling.specs.declared.poses.Pose.{Pose}
 use Rattle.milling.specs.declared.removed.Removed.{Removed}
 use Rattle.milling.proofs.Forming.{passed_both, refused_back, refused_front}
@@ -57,14 +57,14 @@ module _ (m : Guard) (t : Tool) (b b' : List ℤ) (c r z : ℤ) where
         }
 
     pub cut : (a : Removed) → length b' ≡ length b → Clears m.grid m.surface t.profile (pose_at c r z) → Carved m.grid t.profile (Only (pose_at c r z)) (relief m.grid b) (relief m.grid b') →
-        a.samples ≡ summed fallen b b' → a.loss ≡ summed fall b b' → Contacts m.grid m.surface t.profile (Only (pose_at c r z)) a.contact → Posed m t b b' c r z (Ok a)
-    cut a long clear carved samples loss contact =
+        Removes m.grid m.surface t.profile (Only (pose_at c r z)) b b' a → Posed m t b b' c r z (Ok a)
+    cut a long clear carved removed =
         record {
           outcome = record {
             passed = passed_both (formed m.grid t.pitch (length b) c r z) (later m t (pose_at c r z)) passed (covered, (clear, tt));
             long = long;
             carved = carved;
-            removed = record { samples = samples; loss = loss; contact = contact };
+            removed = removed;
           };
           exact = λ _. clear;
         }

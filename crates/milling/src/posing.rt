@@ -34,13 +34,7 @@ pub fn pose<F: Field, C: Cutter>(
     if let Some(invaded) = scan.first_invaded() {
         return Err(Fault::Invaded(0, invaded.sample, invaded.class));
     }
-    let contact = scan.contact();
-    let tally = scan.carve(block);
-    Ok(Removed {
-        samples: tally.samples,
-        loss: tally.loss,
-        contact,
-    })
+    Ok(scan.carve(block))
 }
 
 // Tells the pose, or the first refusal of its plain numbers.

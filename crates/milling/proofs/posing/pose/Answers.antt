@@ -20,6 +20,6 @@ pub returns : goal.returns
 returns g c =
     let formed = c.in_ok-pose.ensures in
     let law = g.met.C.Cutter.lawful c.args.cutter.now in
-    let carved = c.carve-tally.ensures in
+    let carved = c.carve.ensures in
     rw (← c.grid-grid.ensures, ← c.pitch.ensures)
-    (cut _ _ _ _ _ _ _ _ law (rw formed.pose at formed.ready.0) formed.accepts _ c.carve-tally.auto.block (rw formed.pose at c.in_default.ensures) (rw formed.pose at carved.block) carved.samples carved.loss (rw formed.pose at c.contact-contact.ensures))
+    (cut _ _ _ _ _ _ _ _ law (rw formed.pose at formed.ready.0) formed.accepts _ c.carve.auto.block (rw formed.pose at c.in_default.ensures) (rw formed.pose at carved.block) (rw formed.pose at carved.removed))
