@@ -1,5 +1,5 @@
 -- The cut so far: what it has made of the block at the offsets before i. Assumes nothing.
-use Rattle.std.proofs.Common.{◌≡◌, ℕ, ◌+◌, ◌*◌, ◌<◌, ◌≤◌, Bool, true, false, cond, ltb, ◌⊎◌, List, length, get_or, set, ℤ, pos, ◌+ℤ◌, ◌≤ℤ◌, sym, refl, ap, ◌∙◌, subst, inl, inr, ⊎_elim, arith}
+use Rattle.std.proofs.Common.{◌≡◌, ℕ, ◌+◌, ◌*◌, ◌<◌, ◌≤◌, Bool, true, false, cond, ltb, ◌⊎◌, List, length, get_or, set, ℤ, pos, ◌≤ℤ◌, sym, refl, ap, ◌∙◌, subst, inl, inr, ⊎_elim, arith}
 use lib.Signed.{≤ℤ_refl}
 use Rattle.std.proofs.lemmas.List.{length-set, get_or-set_same, get_or_default}
 use Rattle.std.proofs.lemmas.Int.{ints, clamps}
@@ -25,9 +25,7 @@ pub record CutAt (g : Grid) (P : Profile) (p : Pose) (os : List Offset) (i : ℕ
   pub index : ℕ
   pub spare : Offset
   pub before : index < i
-  pub rise : ℕ
-  pub stood : Stood g P p.node (get_or os index spare) s rise
-  pub level : relief g b' s ≡ (p.tip +ℤ pos rise)
+  pub stood : Stood g P p (get_or os index spare) s (relief g b' s)
 
 -- b became b' at the offsets before i, where so many samples fell, and lost so much
 pub record Sofar (g : Grid) (P : Profile) (p : Pose) (os : List Offset) (b b' : List ℤ) (i n l : ℕ) : Type 0 where
@@ -41,8 +39,8 @@ pub record Sofar (g : Grid) (P : Profile) (p : Pose) (os : List Offset) (b b' : 
   pub little : l ≤ i * 4294967296
 
 cut_later : {g : Grid} {P : Profile} {p : Pose} {os : List Offset} {b' : List ℤ} (b'' : List ℤ) {s : Node} (i : ℕ) → relief g b'' s ≡ relief g b' s → CutAt g P p os i b' s → CutAt g P p os (i + 1) b'' s
-cut_later b'' i same at =
-    record { index = at.index; spare = at.spare; before = omega (arith, at.before); rise = at.rise; stood = at.stood; level = same ∙ at.level }
+cut_later {g} {P} {p} {os} b'' {s} i same at =
+    record { index = at.index; spare = at.spare; before = omega (arith, at.before); stood = subst (Stood g P p (get_or os at.index at.spare) s) (sym same) at.stood }
 
 min_either : (x y : ℤ) → (int_min x y ≡ x) ⊎ (int_min x y ≡ y)
 min_either x y = grind (arith, ints)
@@ -80,8 +78,8 @@ module _ {g : Grid} {P : Profile} (p : Pose) (os : List Offset) (b : List ℤ) w
       }
 
   -- a sample that is covered at the offset i was not cut before
-  fresh : (b' : List ℤ) (i : ℕ) (d : Offset) (n l : ℕ) (s : Node) (h : ℕ) → Ring os → i < length os → Sofar g P p os b b' i n l → Stood g P p.node (get_or os i d) s h → relief g b' s ≡ relief g b s
-  fresh b' i d n l s h ring lt so stood =
+  fresh : (b' : List ℤ) (i : ℕ) (d : Offset) (n l : ℕ) (s : Node) (u : ℤ) → Ring os → i < length os → Sofar g P p os b b' i n l → Stood g P p (get_or os i d) s u → relief g b' s ≡ relief g b s
+  fresh b' i d n l s u ring lt so stood =
       ⊎_elim (λ e. e)
       (λ at.
       let same = offset_unique p.node (get_or os at.index at.spare) (get_or os i d) s at.stood.at stood.at in
@@ -89,18 +87,17 @@ module _ {g : Grid} {P : Profile} (p : Pose) (os : List Offset) (b : List ℤ) w
       absurd (omega (arith, at.before)))
       (so.reached s stood.on)
 
-  -- an offset at which the sample s is covered, and lowered where it stands above the underside
-  pub one_more_stood : (b' : List ℤ) (i : ℕ) (d : Offset) (n l : ℕ) (s : Node) (h fell : ℕ) → Ring os → length b ≡ size g → i < length os → Sofar g P p os b b' i n l →
-      Stood g P p.node (get_or os i d) s h → fell ≡ fall (relief g b' s) (p.tip +ℤ pos h) → fell < 4294967296 →
-      Sofar g P p os b (set b' (place g s) (int_min (relief g b' s) (p.tip +ℤ pos h))) (i + 1) (n + cond (ltb 0 fell) 1 0) (l + fell)
-  one_more_stood b' i d n l s h fell ring sized lt so stood is small =
-      let u = p.tip +ℤ pos h in
+  -- an offset at which the sample s is covered, and lowered where it stands above the underside u
+  one_more_stood : (b' : List ℤ) (i : ℕ) (d : Offset) (n l : ℕ) (s : Node) (u : ℤ) (fell : ℕ) → Ring os → length b ≡ size g → i < length os → Sofar g P p os b b' i n l →
+      Stood g P p (get_or os i d) s u → fell ≡ fall (relief g b' s) u → fell < 4294967296 →
+      Sofar g P p os b (set b' (place g s) (int_min (relief g b' s) u)) (i + 1) (n + cond (ltb 0 fell) 1 0) (l + fell)
+  one_more_stood b' i d n l s u fell ring sized lt so stood is small =
       let x = relief g b s in
       let x' = relief g b' s in
       let v = int_min x' u in
       let q = place g s in
       let b'' = set b' q v in
-      let same : x' ≡ x = fresh b' i d n l s h ring lt so stood in
+      let same : x' ≡ x = fresh b' i d n l s u ring lt so stood in
       let sized' : length b' ≡ size g = so.long ∙ sized in
       let inside : q < size g = place_below g s stood.on in
       let inb : q < length b = omega arith in
@@ -120,7 +117,7 @@ module _ {g : Grid} {P : Profile} (p : Pose) (os : List Offset) (b : List ℤ) w
             (λ at.
             ⊎_elim
             (λ (e : v ≡ x'). inl (at.1 ∙ e ∙ same ∙ ap (relief g b) at.0))
-            (λ (e : v ≡ u). inr (record { index = i; spare = d; before = omega arith; rise = h; stood = subst (λ y. Stood g P p.node (get_or os i d) y h) at.0 stood; level = at.1 ∙ e }))
+            (λ (e : v ≡ u). inr (record { index = i; spare = d; before = omega arith; stood = subst (Stood g P p (get_or os i d) t) (sym (at.1 ∙ e)) (subst (λ y. Stood g P p (get_or os i d) y u) at.0 stood) }))
             (min_either x' u))
             (λ left. ⊎_elim (λ e. inl (left ∙ e)) (λ at. inr (cut_later b'' i left at)) (so.reached t on))
             (relief_set g b' s t v sized' stood.on on);
@@ -137,17 +134,11 @@ module _ {g : Grid} {P : Profile} (p : Pose) (os : List Offset) (b : List ℤ) w
       }
 
   -- the same, by equations
-  pub one_more : (b' b'' : List ℤ) (i : ℕ) (d : Offset) (n l n'' l'' : ℕ) (s : Node) (h fell : ℕ) (u : ℤ) → Ring os → length b ≡ size g → i < length os → Sofar g P p os b b' i n l →
-      Stood g P p.node (get_or os i d) s h → u ≡ (p.tip +ℤ pos h) → fell ≡ fall (relief g b' s) u → fell < 4294967296 →
+  pub one_more : (b' b'' : List ℤ) (i : ℕ) (d : Offset) (n l n'' l'' : ℕ) (s : Node) (u : ℤ) (fell : ℕ) → Ring os → length b ≡ size g → i < length os → Sofar g P p os b b' i n l →
+      Stood g P p (get_or os i d) s u → fell ≡ fall (relief g b' s) u → fell < 4294967296 →
       b'' ≡ set b' (place g s) (int_min (relief g b' s) u) → n'' ≡ n + cond (ltb 0 fell) 1 0 → l'' ≡ l + fell → Sofar g P p os b b'' (i + 1) n'' l''
-  one_more b' b'' i d n l n'' l'' s h fell u ring sized lt so stood level is small block count loss =
-      let x = relief g b' s in
-      let q = place g s in
-      let base = one_more_stood b' i d n l s h fell ring sized lt so stood (is ∙ ap (fall x) level) small in
-      let made : b'' ≡ set b' q (int_min x (p.tip +ℤ pos h)) = block ∙ ap (λ y. set b' q (int_min x y)) level in
-      subst (λ y. Sofar g P p os b y (i + 1) n'' l'') (sym made)
-      (subst (λ y. Sofar g P p os b (set b' q (int_min x (p.tip +ℤ pos h))) (i + 1) y l'') (sym count)
-      (subst (λ y. Sofar g P p os b (set b' q (int_min x (p.tip +ℤ pos h))) (i + 1) (n + cond (ltb 0 fell) 1 0) y) (sym loss) base))
+  one_more b' b'' i d n l n'' l'' s u fell ring sized lt so stood is small block count loss =
+      rw (block, count, loss) (one_more_stood b' i d n l s u fell ring sized lt so stood is small)
 
   -- every offset is seen
   pub done : (b' : List ℤ) (j i n l : ℕ) → Ring os → Lawful j P → length os ≤ i → Sofar g P p os b b' i n l → Carved g P (Only p) (relief g b) (relief g b')
@@ -155,5 +146,5 @@ module _ {g : Grid} {P : Profile} (p : Pose) (os : List Offset) (b : List ℤ) w
       record {
         above = so.above;
         under = λ q e s u w. each_all os (λ s u. relief g b' s ≤ℤ u) j i ring lawful le so.under s u (subst (λ y. Under g P y s u) e w);
-        reached = λ s on. ⊎_elim inl (λ at. inr (p, p.tip +ℤ pos at.rise, refl, under_stood p at.stood, at.level)) (so.reached s on);
+        reached = λ s on. ⊎_elim inl (λ at. inr (p, relief g b' s, refl, under_stood p at.stood, refl)) (so.reached s on);
       }

@@ -1,12 +1,7 @@
--- Columns and rows over the map as nodes; checks one list after another. Assumes nothing.
-use Rattle.std.proofs.Common.{ℕ, ◌<◌, List, [], ◌∷◌, ◌++◌, ℤ, pos, negsuc, nat_abs, ◌≤ℤ◌, ◌<ℤ◌, inl, inr, ⊎_elim, arith}
-use Rattle.std.proofs.lemmas.Int.{ints}
+-- Checks, one list after another. Assumes nothing.
+use Rattle.std.proofs.Common.{List, [], ◌∷◌, ◌++◌, inl, inr, ⊎_elim}
 use Rattle.zmap.specs.declared.fault.Fault.{Fault}
 use Rattle.milling.specs.Checks.{Check, Passed, Refused}
-
-pub index_below : (z : ℤ) (n : ℕ) → pos 0 ≤ℤ z → z <ℤ pos n → nat_abs z < n
-index_below (pos k) n low high = omega (arith, ints)
-index_below (negsuc k) n low high = absurd (omega (arith, ints))
 
 pub refused_front : (ks js : List Check) (e : Fault) → Refused ks e → Refused (ks ++ js) e
 refused_front [] js e r = absurd r

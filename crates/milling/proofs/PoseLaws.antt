@@ -1,5 +1,5 @@
 -- The ways a pose ends: refused as ill formed, refused as it invades, or cut. Assumes nothing.
-use Rattle.std.proofs.Common.{◌≡◌, ℕ, List, [], ◌∷◌, length, ℤ, pos, ◌+ℤ◌, Ok, Err, refl, ap, subst, inl, inr, ⊎_elim, arith}
+use Rattle.std.proofs.Common.{◌≡◌, ℕ, List, [], ◌∷◌, length, ℤ, pos, ◌+ℤ◌, Ok, Err, refl, ap, inl, inr, ⊎_elim, arith}
 use Rattle.std.proofs.lemmas.Int.{ints}
 use Rattle.zmap.specs.Maps.{On, relief}
 use Rattle.zmap.specs.declared.class.Class.{Class}
@@ -10,9 +10,9 @@ use Rattle.zmap.specs.declared.node.Node.{Node}
 use Rattle.cutters.specs.Profiles.{Lawful, Profile, centre}
 use Rattle.setups.specs.Surfaces.{Guard}
 use Rattle.milling.specs.Calls.{Posed, Tool}
-use Rattle.milling.specs.Checks.{Check, Passed, Refused, covers_some, formed, invades_none, pose_at}
-use Rattle.milling.specs.Cuts.{Carved, Clears, Contacts, First, Only, Under}
-use Rattle.milling.specs.Losses.{fall, fallen, summed}
+use Rattle.milling.specs.Checks.{Check, Passed, Refused, covers_some, formed, invades_none, node_at, pose_at}
+use Rattle.milling.specs.Cuts.{Carved, Clears, First, Only, Under}
+use Rattle.milling.specs.Losses.{Removes}
 use Rattle.milling.specs.declared.poses.Pose.{Pose}
 use Rattle.milling.specs.declared.removed.Removed.{Removed}
 use Rattle.milling.proofs.Forming.{passed_both, refused_back, refused_front}
@@ -33,48 +33,38 @@ formed_not g pitch long c r z e p q =
 abbrev later : Guard → Tool → Pose → List Check
 later m t p = covers_some m.grid t.profile p ∷ invades_none m.grid m.surface t.profile 0 p ∷ []
 
-module _ (m : Guard) (t : Tool) (b b' : List ℤ) (c r z : ℤ) (g : Grid) (pitch : ℕ) (grid : g ≡ m.grid) (tool : pitch ≡ t.pitch) where
-  plain : (X : List Check → Type 0) → X (formed g pitch (length b) c r z) → X (formed m.grid t.pitch (length b) c r z)
-  plain X x = subst (λ p. X (formed m.grid p (length b) c r z)) tool (subst (λ y. X (formed y pitch (length b) c r z)) grid x)
-
-  pub ill_formed : (e : Fault) → b' ≡ b → Refused (formed g pitch (length b) c r z) e → Posed m t b b' c r z (Err e)
+module _ (m : Guard) (t : Tool) (b b' : List ℤ) (c r z : ℤ) where
+  pub ill_formed : (e : Fault) → b' ≡ b → Refused (formed m.grid t.pitch (length b) c r z) e → Posed m t b b' c r z (Err e)
   ill_formed e same refused =
-      let q = plain (λ ks. Refused ks e) refused in
       record {
-        outcome = record { refused = refused_front (formed m.grid t.pitch (length b) c r z) (later m t (pose_at c r z)) e q; same = same };
-        exact = λ p. absurd (formed_not m.grid t.pitch (length b) c r z e p q);
+        outcome = record { refused = refused_front (formed m.grid t.pitch (length b) c r z) (later m t (pose_at c r z)) e refused; same = same };
+        exact = λ p. absurd (formed_not m.grid t.pitch (length b) c r z e p refused);
       }
 
   -- a well-formed pose, whose node stands over the map
-  module _ (j : ℕ) (lawful : Lawful j t.profile) (p : Pose) (is : p ≡ pose_at c r z) (on : On g p.node) (passed : Passed (formed g pitch (length b) c r z)) where
+  module _ (j : ℕ) (lawful : Lawful j t.profile) (on : On m.grid (node_at c r)) (passed : Passed (formed m.grid t.pitch (length b) c r z)) where
     covered : (covers_some m.grid t.profile (pose_at c r z)).passes
-    covered =
-        let under = centre_under g j t.profile p lawful on in
-        subst (λ y. (s : Node) × (u : ℤ) × Under m.grid t.profile y s u) is
-        (p.node, p.tip +ℤ pos 0, subst (λ x. Under x t.profile p p.node (p.tip +ℤ pos 0)) grid under)
+    covered = (node_at c r, z +ℤ pos 0, centre_under m.grid j t.profile (pose_at c r z) lawful on)
 
-    pub invading : (s : Node) (k : Class) → b' ≡ b → First m.grid m.surface t.profile p s → k ≡ (m.surface s).class → Posed m t b b' c r z (Err (fault.Invaded 0 s k))
+    pub invading : (s : Node) (k : Class) → b' ≡ b → First m.grid m.surface t.profile (pose_at c r z) s → k ≡ (m.surface s).class → Posed m t b b' c r z (Err (fault.Invaded 0 s k))
     invading s k same first class =
-        let first' = subst (λ y. First m.grid m.surface t.profile y s) is first in
-        let e = ap (fault.Invaded 0 s) class in
         record {
           outcome = record {
-            refused = refused_back (formed m.grid t.pitch (length b) c r z) (later m t (pose_at c r z)) (fault.Invaded 0 s k) (plain Passed passed) (inr (covered, inl (s, first', e)));
+            refused = refused_back (formed m.grid t.pitch (length b) c r z) (later m t (pose_at c r z)) (fault.Invaded 0 s k) passed (inr (covered, inl (s, first, ap (fault.Invaded 0 s) class)));
             same = same;
           };
-          exact = λ _. (s, first'.invades);
+          exact = λ _. (s, first.invades);
         }
 
-    pub cut : (a : Removed) → length b' ≡ length b → Clears m.grid m.surface t.profile p → Carved g t.profile (Only p) (relief g b) (relief g b') →
-        a.samples ≡ summed fallen b b' → a.loss ≡ summed fall b b' → Contacts m.grid m.surface t.profile (Only p) a.contact → Posed m t b b' c r z (Ok a)
-    cut a long clear carved samples loss contact =
-        let clear' = subst (Clears m.grid m.surface t.profile) is clear in
+    pub cut : (a : Removed) → length b' ≡ length b → Clears m.grid m.surface t.profile (pose_at c r z) → Carved m.grid t.profile (Only (pose_at c r z)) (relief m.grid b) (relief m.grid b') →
+        Removes m.grid m.surface t.profile (Only (pose_at c r z)) b b' a → Posed m t b b' c r z (Ok a)
+    cut a long clear carved removed =
         record {
           outcome = record {
-            passed = passed_both (formed m.grid t.pitch (length b) c r z) (later m t (pose_at c r z)) (plain Passed passed) (covered, (clear', tt));
+            passed = passed_both (formed m.grid t.pitch (length b) c r z) (later m t (pose_at c r z)) passed (covered, (clear, tt));
             long = long;
-            carved = subst (λ y. Carved m.grid t.profile (Only y) (relief m.grid b) (relief m.grid b')) is (subst (λ x. Carved x t.profile (Only p) (relief x b) (relief x b')) grid carved);
-            removed = record { samples = samples; loss = loss; contact = subst (λ y. Contacts m.grid m.surface t.profile (Only y) a.contact) is contact };
+            carved = carved;
+            removed = removed;
           };
-          exact = λ _. clear';
+          exact = λ _. clear;
         }

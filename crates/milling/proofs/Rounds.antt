@@ -51,13 +51,13 @@ module _ {g : Grid} {P : Profile} {p : Pose} {o : Offset} (Q : Node → ℤ → 
   pub here_bare : Bare g P p.node o → Here g P p o Q
   here_bare bare = record { here = λ s h on at e. absurd (bare s h on at e) }
 
-  pub here_stood : {s : Node} {h : ℕ} → Stood g P p.node o s h → Q s (p.tip +ℤ pos h) → Here g P p o Q
-  here_stood {s} {h} stood q =
+  pub here_stood : {s : Node} {u : ℤ} → Stood g P p o s u → Q s u → Here g P p o Q
+  here_stood {s} {u} stood q =
       record {
         here = λ t k on at e.
             let same = sample_unique p.node o s t stood.at at in
-            let rise = rise_unique P o h k stood.rise e in
-            subst (λ x. Q t (p.tip +ℤ pos x)) rise (subst (λ x. Q x (p.tip +ℤ pos h)) same q);
+            let rise = rise_unique P o stood.rise k stood.covers e in
+            subst (λ x. Q t (p.tip +ℤ pos x)) rise (subst (Q t) stood.level (subst (λ x. Q x u) same q));
       }
 
 pub here_weaker : {g : Grid} {P : Profile} {p : Pose} {o : Offset} {Q R : Node → ℤ → Type 0} → ((s : Node) (u : ℤ) → Q s u → R s u) → Here g P p o Q → Here g P p o R

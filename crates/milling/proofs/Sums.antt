@@ -1,8 +1,8 @@
 -- Sums over two blocks, as one sample is lowered. Assumes nothing.
-use Rattle.std.proofs.Common.{◌≡◌, ℕ, zero, suc, ◌+◌, ◌<◌, true, false, cond, ltb, List, [], ◌∷◌, length, get_or, set, ℤ, pos, negsuc, ◌-ℤ◌, nat_abs, ◌<ℤ◌, sym, refl, ◌∙◌, le_of_suc-le-suc, not-suc-le-zero, arith}
+use Rattle.std.proofs.Common.{◌≡◌, ℕ, zero, suc, ◌+◌, ◌<◌, true, false, cond, ltb, List, [], ◌∷◌, length, get_or, set, ℤ, pos, negsuc, ◌-ℤ◌, nat_abs, ◌<ℤ◌, refl, le_of_suc-le-suc, not-suc-le-zero, arith}
 use lib.Signed.{lt_z}
 use Rattle.std.proofs.lemmas.Int.{by_lt_z, ints}
-use Rattle.std.proofs.lemmas.Bool.{cond-true, cond-false, lt-ltb}
+use Rattle.std.proofs.lemmas.Bool.{lt-ltb}
 use Rattle.std.specs.Int.{int_min}
 use Rattle.milling.specs.Losses.{fall, fallen, summed}
 
@@ -42,16 +42,3 @@ fallen_min x u =
 pub summed_same : (f : ℤ → ℤ → ℕ) → ((x : ℤ) → f x x ≡ 0) → (xs : List ℤ) → summed f xs xs ≡ 0
 summed_same f same [] = refl
 summed_same f same (x ∷ xs) = omega (arith, same x, summed_same f same xs)
-
--- what a sample falls by, and where it stands then, lowered and left
-pub fall_lowered : (x u : ℤ) (r : ℕ) → lt_z u x ≡ true → r ≡ nat_abs (x -ℤ u) → r ≡ fall x u
-fall_lowered x u r t e = e ∙ sym (cond-true (lt_z u x) (nat_abs (x -ℤ u)) 0 t)
-
-pub min_lowered : (x u : ℤ) → lt_z u x ≡ true → u ≡ int_min x u
-min_lowered x u t = sym (cond-true (lt_z u x) u x t)
-
-pub fall_left : (x u : ℤ) → lt_z u x ≡ false → 0 ≡ fall x u
-fall_left x u f = sym (cond-false (lt_z u x) (nat_abs (x -ℤ u)) 0 f)
-
-pub min_left : (x u : ℤ) → lt_z u x ≡ false → x ≡ int_min x u
-min_left x u f = sym (cond-false (lt_z u x) u x f)

@@ -1,13 +1,11 @@
 // Cutting a block: new blocks and poses, against a locked set-up and with any cutter.
 #![tactic(auto)]
 
-mod carving;
-mod covering;
 mod poses;
 mod posing;
 mod removed;
 mod renewing;
-mod scanning;
+mod scan;
 
 pub use posing::pose;
 pub use removed::Removed;

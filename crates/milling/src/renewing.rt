@@ -15,15 +15,6 @@ pub fn new(grid: &Grid, block: &mut [i32]) -> Result<(), Fault>
     if block.len() != grid.samples() {
         return Err(Fault::BlockLength);
     }
-    fill(block);
+    block.fill(CEILING);
     Ok(())
-}
-
-// Writes the ceiling into each place.
-fn fill(block: &mut [i32])
-    ensures { (i : ℕ) → i < length block.new → slice_index_or block.new i (pos 0) ≡ ceiling }
-{
-    for z in block.iter_mut() {
-        *z = CEILING;
-    }
 }
