@@ -7,7 +7,7 @@ use lines::Line;
 use milling::pose;
 use setups::{OpenSetup, Setup};
 use std::fmt;
-use zmap::{Fault, Field, Grid};
+use zmap::{Fault, Field, Grid, Spot};
 
 // The lengths of blocks for a map of six samples.
 pub(crate) const LENGTHS: [[i32; 1]; 5] = [[0], [1], [5], [6], [7]];
@@ -156,27 +156,18 @@ pub(crate) fn single([height, tip]: [i32; 2]) -> Result<Posed, Fault> {
         grid: Grid::new(1, 1, 100)?,
         heights: &[height],
     };
-    cut_by(
-        &OpenSetup::new(part).lock(),
-        Flat::new(100, 100)?,
-        1,
-        0,
-        0,
+    let at = Spot {
+        column: 0,
+        row: 0,
         tip,
-    )
+    };
+    cut_by(&OpenSetup::new(part).lock(), Flat::new(100, 100)?, 1, at)
 }
 
 // The line of a pose of the cutter over a guard, on a marked block of the length.
-fn cut_by<F: Field>(
-    guard: &Setup<F>,
-    cutter: Flat,
-    long: i32,
-    column: i32,
-    row: i32,
-    tip: i32,
-) -> Result<Posed, Fault> {
+fn cut_by<F: Field>(guard: &Setup<F>, cutter: Flat, long: i32, at: Spot) -> Result<Posed, Fault> {
     let mut marked = MARKED;
-    let answer = pose(guard, &cutter, cut(&mut marked, long), column, row, tip);
+    let answer = pose(guard, &cutter, cut(&mut marked, long), at);
     Ok(Posed {
         line: Line::Move { number: 1, answer },
         kept: marked == MARKED,

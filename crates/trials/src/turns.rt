@@ -6,7 +6,7 @@ use fields::Raster;
 use lines::Line;
 use milling::pose;
 use setups::OpenSetup;
-use zmap::{Fault, Grid};
+use zmap::{Fault, Grid, Spot};
 
 // How many poses there are.
 pub(crate) const TURNS: [[i32; 1]; 14] = [
@@ -87,7 +87,7 @@ fn turns(block: &mut [i32], count: i32) -> Result<Option<Line>, Fault> {
     let mut last = None;
     for p in POSES.iter().take(index(count)) {
         let [column, row, tip] = *p;
-        let answer = pose(&guard, &cutter, block, column, row, tip);
+        let answer = pose(&guard, &cutter, block, Spot { column, row, tip });
         last = Some(Line::Move { number: 1, answer });
     }
     Ok(last)
