@@ -1,5 +1,5 @@
 -- Fifteen rows of entries: one read, one written. Assumes nothing.
-use Rattle.std.specs.Prelude.{◌≡◌, ℕ, zero, suc, ◌<◌, List, [], ◌∷◌, length, get_or, replicate, ℤ, pos, ◌≢◌, slice_index_or, slice_set}
+use Rattle.std.specs.Prelude.{◌≡◌, ℕ, zero, suc, ◌<◌, List, [], ◌∷◌, length, get_or, replicate, ℤ, pos, ◌≢◌, slice_index_or, slice_set, refl}
 use Rattle.std.proofs.Common.{sym, ap, ◌∙◌, le_of_suc-le-suc, not-suc-le-zero, arith}
 use Rattle.std.proofs.lemmas.List.{length-set, get_or-map, get_or-replicate, get_or-set_same, get_or-set_other, map-set}
 use Rattle.std.proofs.lemmas.Grind.{common_steps}
@@ -32,9 +32,9 @@ pub row_put : (rows : List Row) (i j : ℕ) (z : ℤ) (d r : Row) → i < length
 row_put rows i j z d r lt l e =
     let lt' : i < length (slice_set rows i r) = simp length-set (omega arith) in
     let at : (m : ℕ) → cell (slice_set rows i r) i m ≡ get_or (slice_set (get_or rows i d).heights j z) m (pos 0) =
-    λ m. cell_is (slice_set rows i r) i m r lt' ∙ ap (λ (x : Row). get_or x.heights m (pos 0)) (get_or-set_same rows i r r lt) ∙ ap (λ x. get_or x m (pos 0)) e in
+    λ m. rw (cell_is (slice_set rows i r) i m r lt', get_or-set_same rows i r r lt, e) refl in
     record {
-      here = at j ∙ get_or-set_same (get_or rows i d).heights j z (pos 0) (omega (arith, (get_or rows i d).sized));
+      here = at j ∙ grind (arith, common_steps, (get_or rows i d).sized);
       row = λ m ne. at m ∙ get_or-set_other (get_or rows i d).heights j m z (pos 0) ne ∙ sym (cell_is rows i m d lt);
       rest = λ k m ne.
           ap (λ g. get_or (slice_index_or g k []) m (pos 0)) (map-set (λ (x : Row). x.heights) rows i r)

@@ -74,12 +74,8 @@ unfolding entry_at
 written t t' o z z' i j same e f n p =
     record {
       written = sym (entry_is t' o i j e f) ∙ p.here ∙ same;
-      row = λ q m y x.
-          let k : index q.dy ≡ i = ap index y ∙ sym e in
-          ap (λ s. cell t'.rows s (index q.dx)) k
-          ∙ p.row (index q.dx) (λ l. x (index_unique _ _ m.west n.west (l ∙ f)))
-          ∙ ap (λ s. cell t.rows s (index q.dx)) (sym k);
-      rest = λ q m y. p.rest (index q.dy) (index q.dx) (λ l. y (index_unique _ _ m.north n.north (l ∙ e)));
+      row = λ q m y x. grind (arith, p.row (index q.dx), index_unique q.dx o.dx m.west n.west);
+      rest = λ q m y. grind (arith, p.rest (index q.dy) (index q.dx), index_unique q.dy o.dy m.north n.north);
     }
 
 -- an entry that is allowed, and what that is where the tip stands
