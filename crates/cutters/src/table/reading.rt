@@ -9,7 +9,7 @@ use zmap::Offset;
 
 impl Table {
     // The height at the offset, or nothing where that is not covered.
-    #[tactic(auto, using(crate::specs::TablesLemmas::table_reading))]
+    #[tactic(auto, using(crate::specs::TablesLemmas::entry_drawn))]
     pub(crate) fn read(&self, o: Offset) -> Option<u32>
         ensures value { result ≡ measured_shape self.now o }
         ensures drawn { MeasuredDrawn self.now o result }
