@@ -21,7 +21,8 @@ pub fn pose<F: Field, C: Cutter>(
     block: &mut [i32],
     at: Spot,
 ) -> Result<Removed, Fault>
-    ensures { Posed (guard_of F.Field.extent F.Field.surface guard.now) (tool_of C.Cutter.spacing C.Cutter.shape cutter.now) block.old block.new at.column at.row at.tip result }
+    ensures { Posed (guard_of F.Field.extent F.Field.surface guard.now) (tool_of C.Cutter.spacing C.Cutter.shape cutter.now)
+        block.old block.new at.column at.row at.tip result }
 {
     let grid = guard.grid();
     let pose = check(&grid, cutter.pitch(), block.len(), at)?;
@@ -39,7 +40,8 @@ pub fn pose<F: Field, C: Cutter>(
 
 // Tells the pose, or the first refusal of its plain numbers.
 fn check(grid: &Grid, pitch: Pitch, long: usize, at: Spot) -> Result<Pose, Fault>
-    ensures accepts { MatchResult result (λ p. Passed (formed grid.now pitch.microns long at.column at.row at.tip)) (λ e. Refused (formed grid.now pitch.microns long at.column at.row at.tip) e) }
+    ensures accepts { let ks = formed grid.now pitch.microns long at.column at.row at.tip in
+        MatchResult result (λ p. Passed ks) (λ e. Refused ks e) }
     ensures ready { IfOk result (λ p. On grid.now p.node × Height p.tip) }
     ensures pose { IfOk result (λ p. p ≡ pose_at at.column at.row at.tip) }
 {
@@ -58,7 +60,8 @@ fn check(grid: &Grid, pitch: Pitch, long: usize, at: Spot) -> Result<Pose, Fault
 
 // Tells the node at a column and a row, or nothing off the map.
 fn node_at(grid: &Grid, at: Spot) -> Option<Node>
-    ensures { MatchOption result (Over grid.now at.column at.row → ⊥) (λ n. Over grid.now at.column at.row × (On grid.now n × (n ≡ node_at at.column at.row))) }
+    ensures { MatchOption result (Over grid.now at.column at.row → ⊥)
+        (λ n. Over grid.now at.column at.row × On grid.now n × (n ≡ node_at at.column at.row)) }
 {
     let column = usize::try_from(at.column).ok()?;
     let row = usize::try_from(at.row).ok()?;

@@ -17,9 +17,13 @@ pub(crate) struct Invaded {
 impl<F: Field, C: Cutter> Scan<'_, F, C> {
     // Finds the first invaded sample in the order of the offsets, if the pose invades one.
     pub(crate) fn first_invaded(&self) -> Option<Invaded>
-        ensures { MatchOption result (Clears self.now.grid (F.Field.surface self.now.guard.now) (C.Cutter.shape self.now.cutter.now) self.now.pose) (λ w. First self.now.grid (F.Field.surface self.now.guard.now) (C.Cutter.shape self.now.cutter.now) self.now.pose w.sample × (w.class ≡ (F.Field.surface self.now.guard.now w.sample).class)) }
+        ensures { let G = F.Field.surface self.now.guard.now in
+            let P = C.Cutter.shape self.now.cutter.now in
+            MatchOption result (Clears self.now.grid G P self.now.pose)
+            (λ w. First self.now.grid G P self.now.pose w.sample × (w.class ≡ (G w.sample).class)) }
     {
         let mut found = None;
+        // a loop, since by a rule of the project a scan is left by its label
         'scan: for o in offsets() {
             if let Some(invaded) = self.invaded_at(*o) {
                 found = Some(invaded);
@@ -31,7 +35,10 @@ impl<F: Field, C: Cutter> Scan<'_, F, C> {
 
     // Finds the sample at one offset, if the pose invades it.
     fn invaded_at(&self, o: Offset) -> Option<Invaded>
-        ensures { MatchOption result (Here self.now.grid (C.Cutter.shape self.now.cutter.now) self.now.pose o (λ s u. (F.Field.surface self.now.guard.now s).height ≤ℤ u)) (λ w. InvadedAt self.now.grid (F.Field.surface self.now.guard.now) (C.Cutter.shape self.now.cutter.now) self.now.pose o w.sample w.class) }
+        ensures { let G = F.Field.surface self.now.guard.now in
+            let P = C.Cutter.shape self.now.cutter.now in
+            MatchOption result (Here self.now.grid P self.now.pose o (λ s u. (G s).height ≤ℤ u))
+            (λ w. InvadedAt self.now.grid G P self.now.pose o w.sample w.class) }
     {
         let cover = self.covered(o)?;
         let told = self.told(cover.sample);

@@ -9,9 +9,12 @@ use zmap::{Contact, Field, Offset, greater};
 impl<F: Field, C: Cutter> Scan<'_, F, C> {
     // Tells the highest class among the samples where the underside stands at the guard, or clear.
     pub(crate) fn contact(&self) -> Contact
-        ensures { Contacts self.now.grid (F.Field.surface self.now.guard.now) (C.Cutter.shape self.now.cutter.now) (Only self.now.pose) result }
+        ensures { let G = F.Field.surface self.now.guard.now in
+            let P = C.Cutter.shape self.now.cutter.now in
+            Contacts self.now.grid G P (Only self.now.pose) result }
     {
         let mut contact = Contact::Clear;
+        // not `max`, since by a rule of the project `greater` is the one text for the greatest of a run
         for o in offsets() {
             contact = greater(contact, self.met_at(*o));
         }
@@ -20,7 +23,9 @@ impl<F: Field, C: Cutter> Scan<'_, F, C> {
 
     // Tells the contact at one offset.
     fn met_at(&self, o: Offset) -> Contact
-        ensures { MetAt self.now.grid (F.Field.surface self.now.guard.now) (C.Cutter.shape self.now.cutter.now) self.now.pose o result }
+        ensures { let G = F.Field.surface self.now.guard.now in
+            let P = C.Cutter.shape self.now.cutter.now in
+            MetAt self.now.grid G P self.now.pose o result }
     {
         if let Some(cover) = self.covered(o) {
             let told = self.told(cover.sample);

@@ -16,12 +16,13 @@ loop-o-preserved g c =
     let i = c.loop-o.o-index in
     elim c.match-covered.branch [
       | in-Some w ↦
-          let small : w.lower.result < 4294967296 = search rules in
-          (one_more p os b c.loop-o.block _ i _ _ _ _ _ _ _ _ c.offsets-o-items.ensures c.requires c.loop-o-test.true c.loop-o.invariant.0
-          w.in-Some.ensures w.lower.ensures.fell small (w.block-is ∙ w.lower.ensures.block)
-          (ap (λ (t : Removed). t.samples) w.removed-is ∙ w.count.ensures.samples)
-          (ap (λ (t : Removed). t.loss) w.removed-is ∙ w.count.ensures.loss),
-          ap (λ (t : Removed). t.contact) w.removed-is ∙ w.count.ensures.contact ∙ c.loop-o.invariant.1)
+          let small : w.lower.result < 4294967296 = search rules in (
+            one_more p os b c.loop-o.block _ i _ _ _ _ _ _ _ _ c.offsets-o-items.ensures c.requires c.loop-o-test.true c.loop-o.invariant.0
+                w.in-Some.ensures w.lower.ensures.fell small (w.block-is ∙ w.lower.ensures.block)
+                (ap (λ (t : Removed). t.samples) w.removed-is ∙ w.count.ensures.samples)
+                (ap (λ (t : Removed). t.loss) w.removed-is ∙ w.count.ensures.loss),
+            ap (λ (t : Removed). t.contact) w.removed-is ∙ w.count.ensures.contact ∙ c.loop-o.invariant.1,
+          )
       | in_default w ↦
           rw (w.block-is, w.removed-is) (one_more_bare p os b c.loop-o.block i _ _ _ c.loop-o-test.true c.loop-o.invariant.0 w.in_default.ensures, c.loop-o.invariant.1)
     ]
