@@ -1,12 +1,12 @@
 -- The height of a ball: by a root rounded up, by its formula, and its laws. Assumes nothing.
 use Rattle.std.specs.Prelude.{◌≡◌, ℕ, ◌+◌, ◌-◌, ◌*◌, ◌<◌, ◌≤◌, true, Some, nat_le}
-use Rattle.std.proofs.Common.{sym, ap, subst, ◌∙◌, inl, inr, arith}
+use Rattle.std.proofs.Common.{sym, ap, subst, ◌∙◌, arith}
 use Rattle.std.proofs.lemmas.Nat.{mul-le, mul-lt}
-use Rattle.std.proofs.lemmas.Bool.{cases_lt, le-leb, lt-leb}
+use Rattle.std.proofs.lemmas.Bool.{le-leb, lt-leb}
 use Rattle.cutters.specs.Balls.{ball_height, ball_shape, BallStands, BallDrawn, RootUp}
 use Rattle.cutters.specs.Discs.{square, in_disc}
 use Rattle.cutters.specs.Profiles.{Lawful}
-use Rattle.cutters.specs.DiscsLemmas.{covered, disc_lawful, disc_le, square_centre}
+use Rattle.cutters.specs.DiscsLemmas.{disc_lawful, disc_le, disc_past, square_centre}
 use Rattle.cutters.specs.LargestLemmas.{largest_below, largest_unique}
 use Rattle.zmap.specs.declared.node.Offset.{Offset}
 
@@ -19,11 +19,7 @@ root_more n r low high = record { has = omega arith; bounds = λ k l. omega (ari
 
 -- the root is at most the radius
 pub root_under : (R q d : ℕ) → RootUp (R * R - q) d → d ≤ R
-root_under R q d s =
-    elim (cases_lt R d) [
-      | inl l ↦ absurd (omega (arith, s.bounds R l))
-      | inr l ↦ l
-    ]
+root_under R q d s = grind (arith, s.bounds R)
 
 pub ball_root : (R q d : ℕ) → q ≤ R * R → RootUp (R * R - q) d → BallStands R q (R - d)
 ball_root R q d near s =
@@ -55,7 +51,10 @@ ball_lawful p R slim near =
     (λ o _. omega (arith, ball_below R (square p o)))
 
 pub ball_value : (p R : ℕ) (o : Offset) (q h : ℕ) → in_disc p R o ≡ true → q ≡ square p o → BallStands R q h → Some h ≡ ball_shape p R o
-ball_value p R o q h i e s = covered (in_disc p R o) _ h i (ap (ball_height R) (sym e) ∙ ball_unique R q h s)
+ball_value p R o q h i e s = simp (i, sym e, ball_unique R q h s)
 
 pub ball_drawn : (p R : ℕ) (o : Offset) (q h : ℕ) → in_disc p R o ≡ true → q ≡ square p o → BallStands R q h → BallDrawn p R o (Some h)
 ball_drawn p R o q h i e s = (disc_le p R o i, subst (λ x. BallStands R x h) e s)
+
+-- what a ball answers at an offset
+pub ruleset ball_drawing = (disc_past, disc_le, ball_value, ball_drawn)

@@ -1,5 +1,5 @@
 // The interface of cutters: a pitch, and the height of the underside above the tip at each offset.
-ghost use Rattle.std.specs.Prelude.{◌≡◌, ℕ, pos};
+ghost use Rattle.std.specs.Prelude.{◌≡◌, ℕ};
 ghost use Rattle.cutters.specs.Profiles.{Profile, Lawful};
 
 use zmap::{Offset, Pitch};
@@ -7,16 +7,16 @@ use zmap::{Offset, Pitch};
 // A cutter tells its pitch and its profile, and changes nothing.
 pub trait Cutter {
     // The widest reach: at most 15, and nothing is covered past it on any side.
-    const REACH: i32;
+    const REACH: u32;
+
+    // The constant, as clauses and laws name it.
+    ghost REACH: { ℕ };
 
     // The pitch that the profile is drawn for, in µm.
     ghost spacing: { Self → ℕ };
 
     // The height of the underside above the tip, in µm, at each offset that is covered.
     ghost shape: { Self → Profile };
-
-    // The reach that no covered offset passes.
-    ghost widest: { Self → ℕ };
 
     fn pitch(&self) -> Pitch
         ensures { result.microns ≡ spacing self.now };
@@ -25,9 +25,5 @@ pub trait Cutter {
     fn profile(&self, o: Offset) -> Option<u32>
         ensures { result ≡ shape self.now o };
 
-    // The constant, which no clause can name, tied to what it bounds.
-    fn widest_reach(&self) -> i32
-        ensures { result ≡ pos (widest self.now) };
-
-    ghost lawful: { (t : Self) → Lawful (widest t) (shape t) };
+    ghost lawful: { (t : Self) → Lawful REACH (shape t) };
 }

@@ -8,13 +8,13 @@ use zmap::{Offset, Pitch};
 
 // As high as its entries tell, and covers nothing past seven columns and rows.
 impl Cutter for Measured {
-    const REACH: i32 = 7;
+    const REACH: u32 = 7;
+
+    ghost REACH = { 7 };
 
     ghost spacing = { λ t. t.pitch.microns };
 
     ghost shape = { λ t. measured_shape t.table };
-
-    ghost widest = { λ t. 7 };
 
     ghost lawful = { λ t. measured_lawful t.table };
 
@@ -27,9 +27,5 @@ impl Cutter for Measured {
         ensures drawn { MeasuredDrawn self.now.table o result }
     {
         self.table.read(o)
-    }
-
-    fn widest_reach(&self) -> i32 {
-        Self::REACH
     }
 }

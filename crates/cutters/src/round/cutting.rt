@@ -10,25 +10,25 @@ use zmap::{Offset, Pitch};
 
 // As its kind.
 impl Cutter for RoundTool {
-    const REACH: i32 = 15;
+    const REACH: u32 = 15;
+
+    ghost REACH = { 15 };
 
     ghost spacing = { round_spacing };
 
     ghost shape = { round_shape };
 
-    ghost widest = { λ t. 15 };
-
     ghost lawful = { elim [
-      | Flat t ↦ flat_lawful t.pitch.microns t.radius t.near
-      | Cone t ↦ cone_lawful t.pitch.microns t.radius t.tip t.rise t.near
-      | Ball t ↦ ball_lawful t.pitch.microns t.radius t.slim t.near
+      | Flat t ↦ flat_lawful t.disc.pitch.microns t.disc.radius t.disc.near
+      | Cone t ↦ cone_lawful t.disc.pitch.microns t.disc.radius t.tip t.rise t.disc.near
+      | Ball t ↦ ball_lawful t.disc.pitch.microns t.disc.radius t.disc.slim t.disc.near
     ] };
 
     fn pitch(&self) -> Pitch {
         match self {
-            RoundTool::Flat(t) => t.pitch,
-            RoundTool::Cone(t) => t.pitch,
-            RoundTool::Ball(t) => t.pitch,
+            RoundTool::Flat(t) => t.disc.pitch,
+            RoundTool::Cone(t) => t.disc.pitch,
+            RoundTool::Ball(t) => t.disc.pitch,
         }
     }
 
@@ -38,9 +38,5 @@ impl Cutter for RoundTool {
             RoundTool::Cone(t) => t.profile(o),
             RoundTool::Ball(t) => t.profile(o),
         }
-    }
-
-    fn widest_reach(&self) -> i32 {
-        Self::REACH
     }
 }
