@@ -4,49 +4,42 @@ use Rattle.zmap.specs.Limits.{within}
 use Rattle.zmap.specs.declared.fault.Fault.{Fault}
 use Rattle.zmap.specs.declared.fault.Fault.TheVariants as fault
 use Rattle.jobs.specs.Items.{refusing, is_kind, counted}
-use Rattle.jobs.proofs.Exactness.{ok_same, never}
-
-pub untrue : ◌≡◌ {A = Bool} false true → ⊥
-untrue h = let z : ◌≡◌ {A = ℕ} 0 1 = cc in omega arith
-
-pub refused : (e : Fault) → ◌≡◌ {A = Option Fault} (Some e) None → ⊥
-refused e h = let z : ◌≡◌ {A = ℕ} 0 1 = cc in omega arith
 
 pub both : (a b : Bool) → (a && b) ≡ true → (a ≡ true) × (b ≡ true)
 both true b h = (refl, h)
-both false b h = absurd (untrue h)
+both false b h = cc
 
 pub refusing_takes : {X : Type 0} (o : Option Fault) (r : Result X Fault) (x : X) → refusing o r ≡ Ok x → (o ≡ None) × (r ≡ Ok x)
 refusing_takes None r x h = (refl, h)
-refusing_takes (Some e) r x h = absurd (never _ _ h)
+refusing_takes (Some e) r x h = cc
 
 -- an outcome under a test came out, so the test did
 pub cond_takes : {X E : Type 0} (b : Bool) (r : Result X E) (e : E) (x : X) → cond b r (Err e) ≡ Ok x → (b ≡ true) × (r ≡ Ok x)
 cond_takes true r e x h = (refl, h)
-cond_takes false r e x h = absurd (never _ _ h)
+cond_takes false r e x h = cc
 
 pub kind_takes : (k : ℕ) (w : ℤ) → is_kind k w ≡ true → w ≡ pos k
 kind_takes k (pos n) h = ap pos (eqb-true n k h)
-kind_takes k (negsuc n) h = absurd (untrue h)
+kind_takes k (negsuc n) h = cc
 
 pub counted_takes : (low high : ℕ) (w : ℤ) (n : ℕ) → counted low high w ≡ Ok n → (w ≡ pos n) × (low ≤ n) × (n ≤ high)
 counted_takes low high (pos m) n h =
     let t = cond_takes (leb low m && leb m high) (Ok m) fault.Count n h in
     let b = both (leb low m) (leb m high) t.0 in
-    let e = ok_same m n t.1 in
+    let e : m ≡ n = cc in
     (ap pos e, subst (λ k. low ≤ k) e (leb-true low m b.0), subst (λ k. k ≤ high) e (leb-true m high b.1))
-counted_takes low high (negsuc m) n h = absurd (never _ _ h)
+counted_takes low high (negsuc m) n h = cc
 
 pub counted_gives : (low high n : ℕ) → low ≤ n → n ≤ high → counted low high (pos n) ≡ Ok n
 counted_gives low high n l h = rw (le-leb low n l, le-leb n high h)
 
 pub within_pos : (low high : ℕ) (w : ℤ) → within (pos low) (pos high) w ≡ true → pos (nat_abs w) ≡ w
 within_pos low high (pos n) h = refl
-within_pos low high (negsuc n) h = absurd (untrue h)
+within_pos low high (negsuc n) h = cc
 
 -- a grid that is not refused has its three numbers in range
 pub grid_in : (a b d : Bool) → ◌≡◌ {A = Option Fault} (cond a (cond b (cond d None (Some fault.Pitch)) (Some fault.Rows)) (Some fault.Columns)) None → (a ≡ true) × (b ≡ true) × (d ≡ true)
 grid_in true true true h = (refl, refl, refl)
-grid_in true true false h = absurd (refused _ h)
-grid_in true false d h = absurd (refused _ h)
-grid_in false b d h = absurd (refused _ h)
+grid_in true true false h = cc
+grid_in true false d h = cc
+grid_in false b d h = cc

@@ -1,16 +1,16 @@
 -- The reader takes exactly the bytes that encode an allowed job. Assumes nothing.
-use Rattle.std.proofs.Common.{◌≡◌, ℕ, cond, eqb, leb, List, [], ◌∷◌, ◌++◌, length, ℤ, pos, Ok, Err, sym, refl, ap, ◌∙◌, subst, arith, eqb-true, le-leb, leb-true}
+use Rattle.std.proofs.Common.{◌≡◌, ℕ, cond, eqb, leb, List, [], ◌∷◌, ◌++◌, length, ℤ, pos, Ok, Err, Result, MatchResult, sym, refl, ap, ◌∙◌, subst, arith, eqb-true, le-leb, leb-true}
 use Rattle.std.proofs.lemmas.List.{append-nil, nil_from_length}
-use Rattle.zmap.specs.declared.fault.Fault.TheVariants as fault
 use Rattle.setups.specs.declared.clamp.Clamp.{Clamp}
 use Rattle.jobs.specs.declared.bad.Bad.{Bad}
 use Rattle.jobs.specs.declared.job.Job.{Job}
 use Rattle.jobs.specs.declared.job.Move.{Move}
+use Rattle.jobs.specs.declared.section.Section.TheVariants.{Whole, Facets, Allowance}
 use Rattle.jobs.specs.Parsers.{Reads}
 use Rattle.jobs.specs.Items.{Extent, Turned}
-use Rattle.jobs.specs.Jobs.{Reading, told, sections, ended, parse}
+use Rattle.jobs.specs.Jobs.{Reading, told, sections, over, ended, parse}
 use Rattle.jobs.specs.Encodings.{MoveWords, Section, Words, Allowed, Encodes, Decodes}
-use Rattle.jobs.proofs.Exactness.{Exact, After, exact_then, exact_end, exact_same, ok_same, never}
+use Rattle.jobs.proofs.Exactness.{Exact, After, exact_then, exact_end, exact_same}
 use Rattle.jobs.proofs.Checks.{cond_takes}
 use Rattle.jobs.proofs.ExactSections.{First, Second, Third, Sixth, Bare, exact_grid, exact_cutter, exact_heights, exact_clamps, exact_moves, exact_none, all_unit}
 
@@ -26,7 +26,7 @@ exact_laid : Exact sections Laid
 unfolding sections
 exact_laid =
     exact_then _ _ _ _ exact_grid (λ g. exact_then _ _ _ _ (exact_cutter g) (λ t. exact_then _ _ _ _ (exact_heights g) (λ hs.
-    exact_then _ _ _ _ (exact_none 4) (λ a. exact_then _ _ _ _ (exact_none 5) (λ b. exact_then _ _ _ _ (exact_clamps g) (λ ks.
+    exact_then _ _ _ _ (exact_none Facets) (λ a. exact_then _ _ _ _ (exact_none Allowance) (λ b. exact_then _ _ _ _ (exact_clamps g) (λ ks.
     exact_then _ _ _ _ exact_moves (λ ms. exact_end (record { grid = g; cutter = t; heights = hs; clamps = ks; moves = ms }))))))))
 
 laid_takes : (j : Reading) (ws : List ℤ) → Laid j ws → Words j ws × Allowed j
@@ -120,8 +120,9 @@ exact_sections = exact_same sections Laid (λ j ws. Words j ws × Allowed j) exa
 ended_takes : (p : Reads Reading Bad) (j : Reading) → ended p ≡ Ok j → p ≡ Ok (j, [])
 ended_takes (Ok q) j h =
     let t = cond_takes (eqb (length q.1) 0) (Ok q.0) _ j h in
-    ap (λ v. Ok (v, q.1)) (ok_same q.0 j t.1) ∙ ap (λ l. Ok (j, l)) (nil_from_length q.1 (eqb-true _ 0 t.0))
-ended_takes (Err e) j h = absurd (never _ _ h)
+    let e : q.0 ≡ j = cc in
+    ap (λ v. Ok (v, q.1)) e ∙ ap (λ l. Ok (j, l)) (nil_from_length q.1 (eqb-true _ 0 t.0))
+ended_takes (Err e) j h = cc
 
 parse_takes : (bs : List ℕ) (j : Reading) → parse bs ≡ Ok j → Encodes bs j
 unfolding parse
@@ -134,12 +135,9 @@ parse_gives : (bs : List ℕ) (j : Reading) → Encodes bs j → parse bs ≡ Ok
 unfolding parse
 parse_gives bs j e =
     let s = exact_sections.gives j e.words bs [] (e.laid, e.allowed) e.spelt in
-    ap (λ b. cond b (ended (sections bs)) (Err (record { fault = fault.Over; section = 0; at = 0 }))) (le-leb (length bs) 65536 e.short) ∙ ap ended s
+    ap (λ b. cond b (ended (sections bs)) (Err (over Whole))) (le-leb (length bs) 65536 e.short) ∙ ap ended s
 
--- a job that was read is the one that the bytes encode
-pub law_ok : (bs : List ℕ) (job : Job) → parse bs ≡ Ok (told job) → Decodes bs (Ok job)
-law_ok bs job h = (parse_takes bs (told job) h, λ j e. ok_same j (told job) (sym (parse_gives bs j e) ∙ h))
-
--- bytes that are bad encode none
-pub law_bad : (bs : List ℕ) (bad : Bad) → parse bs ≡ Err bad → Decodes bs (Err bad)
-law_bad bs bad h = λ j e. never j bad (sym h ∙ parse_gives bs j e)
+-- a job that was read is the one that the bytes encode, and bytes that are bad encode none
+pub law : (bs : List ℕ) (r : Result Job Bad) → MatchResult r (λ job. parse bs ≡ Ok (told job)) (λ bad. parse bs ≡ Err bad) → Decodes bs r
+law bs (Ok job) h = (parse_takes bs (told job) h, λ j e. let g = parse_gives bs j e in cc)
+law bs (Err bad) h = λ j e. let g = parse_gives bs j e in cc

@@ -3,16 +3,17 @@ use Rattle.std.proofs.Common.{◌≡◌, ℕ, zero, suc, ◌+◌, ◌≤◌, Lis
 use Rattle.std.proofs.lemmas.List.{append-nil}
 use Rattle.std.specs.List.{AllByRecursion}
 use Rattle.zmap.specs.declared.fault.Fault.{Fault}
+use Rattle.jobs.specs.declared.section.Section.{Section as Named}
 use Rattle.jobs.specs.Parsers.{then}
 use Rattle.jobs.specs.Records.{one_record, placed, records, records_onto}
 use Rattle.jobs.specs.Items.{nth, count_of}
-use Rattle.jobs.specs.Sections.{count}
+use Rattle.jobs.specs.Sections.{count, single, listed}
 use Rattle.jobs.specs.Encodings.{Spells, InTurn, Section}
 use Rattle.jobs.proofs.Exactness.{Exact, Made, exact_record, exact_placed, exact_then, exact_same, ok_both, then_takes, spells_join, spells_split}
 use Rattle.jobs.proofs.Checks.{counted_takes, counted_gives}
 use Rattle.jobs.proofs.Layouts.{spread_one}
 
-module _ {X : Type 0} (width : ℕ) (f : List ℤ → Result X Fault) (section : ℕ) where
+module _ {X : Type 0} (width : ℕ) (f : List ℤ → Result X Fault) (section : Named) where
   one : (i : ℕ) → Exact (λ bs. placed section i (one_record width f bs)) (Made width f)
   one i = exact_placed section i (one_record width f) (Made width f) (exact_record width f)
 
@@ -47,13 +48,17 @@ module _ {X : Type 0} (width : ℕ) (f : List ℤ → Result X Fault) (section :
 abbrev pub CountWord : ℕ → ℕ → ℕ → List ℤ → Type 0
 CountWord low high n us = (us ≡ pos n ∷ []) × (low ≤ n) × (n ≤ high)
 
-pub exact_count : (section low high : ℕ) → Exact (count section low high) (CountWord low high)
+pub exact_count : (section : Named) (low high : ℕ) → Exact (count section low high) (CountWord low high)
 unfolding count
 exact_count section low high =
     exact_placed section 0 (one_record 1 (count_of low high)) (CountWord low high)
     (exact_same (one_record 1 (count_of low high)) (Made 1 (count_of low high)) (CountWord low high) (exact_record 1 (count_of low high))
     (λ n us m. let t = counted_takes low high (nth us 0) n m.1 in (spread_one us m.0 ∙ ap (λ w. w ∷ []) t.0, t.1, t.2))
     (λ n us w. subst (λ v. Made 1 (count_of low high) n v) (sym w.0) (refl, counted_gives low high n w.1 w.2)))
+
+-- a count that was read is in range
+pub count_within : (section : Named) (low high n : ℕ) (bs rest : List ℕ) → count section low high bs ≡ Ok (n, rest) → (low ≤ n) × (n ≤ high)
+count_within section low high n bs rest h = let t = (exact_count section low high).takes n bs rest h in (t.1.1, t.1.2)
 
 -- L gives the words of the records of a kind whose items meet A
 module _ {X : Type 0} (width : ℕ) (f : List ℤ → Result X Fault) (L : X → List ℤ → Type 0) (A : X → Type 0) (to : (x : X) (us : List ℤ) → Made width f x us → L x us × A x) (from : (x : X) (us : List ℤ) → L x us → A x → Made width f x us) where
@@ -68,15 +73,17 @@ module _ {X : Type 0} (width : ℕ) (f : List ℤ → Result X Fault) (L : X →
       (r.0, r.1, r.2, from x r.0 r.3 a.0, turns_from xs r.1 r.4 a.1)
 
   -- a section of as many records as its count says
-  pub exact_section : (section low high : ℕ) → Exact (λ bs. then (count section low high bs) (λ n rest. records width f section n rest)) (λ xs ws. Section L xs ws × AllByRecursion A xs × (low ≤ length xs) × (length xs ≤ high))
-  exact_section section low high =
+  pub exact_listed : (section : Named) (low high : ℕ) → Exact (listed section low high width f) (λ xs ws. Section L xs ws × AllByRecursion A xs × (low ≤ length xs) × (length xs ≤ high))
+  unfolding listed
+  exact_listed section low high =
       exact_same _ _ _ (exact_then (count section low high) (CountWord low high) (λ n rest. records width f section n rest) (λ n xs ws. (length xs ≡ n) × InTurn (Made width f) xs ws) (exact_count section low high) (exact_records width f section))
       (λ xs ws r. let t = turns_to xs r.2 r.5.1 in let e = r.5.0 in
       ((r.2, r.3 ∙ ap (λ us. us ++ r.2) r.4.0 ∙ ap (λ n. pos n ∷ r.2) (sym e), t.0), t.1, subst (λ n. low ≤ n) (sym e) r.4.1, subst (λ n. n ≤ high) (sym e) r.4.2))
       (λ xs ws r. (length xs, pos (length xs) ∷ [], r.0.0, r.0.1, (refl, r.2, r.3), (refl, turns_from xs r.0.0 r.0.2 r.1)))
 
   -- a section of one record
-  pub exact_single : (section : ℕ) → Exact (λ bs. then (count section 1 1 bs) (λ n rest. placed section 0 (one_record width f rest))) (λ x ws. Section L (x ∷ []) ws × A x)
+  pub exact_single : (section : Named) → Exact (single section width f) (λ x ws. Section L (x ∷ []) ws × A x)
+  unfolding single
   exact_single section =
       exact_same _ _ _ (exact_then (count section 1 1) (CountWord 1 1) (λ n rest. placed section 0 (one_record width f rest)) (λ n. Made width f) (exact_count section 1 1) (λ n. one width f section 0))
       (λ x ws r. let a = to x r.2 r.5 in let e : r.0 ≡ 1 = omega (arith, r.4.1, r.4.2) in

@@ -3,6 +3,7 @@ use Rattle.std.proofs.Common.{◌≡◌, ℕ, zero, suc, ◌≤◌, Bool, true, 
 use Rattle.std.proofs.lemmas.List.{append-nil}
 use Rattle.zmap.specs.declared.fault.Fault.{Fault}
 use Rattle.zmap.specs.declared.fault.Fault.TheVariants as fault
+use Rattle.jobs.specs.declared.section.Section.{Section}
 use Rattle.jobs.specs.Parsers.{Reads, then, number, word, words, words_onto}
 use Rattle.jobs.specs.Records.{leaving, one_record, placed}
 use Rattle.jobs.specs.Encodings.{Spells}
@@ -21,25 +22,19 @@ spells_split [] vs bs rest s = (bs, refl, s)
 spells_split (u ∷ us) vs bs rest s =
     let t = spells_split us vs (drop 4 bs) rest s.2 in (t.0, (s.0, s.1, t.1), t.2)
 
-pub ok_same : {X E : Type 0} (x y : X) → ◌≡◌ {A = Result X E} (Ok x) (Ok y) → x ≡ y
-ok_same x y e = cc
-
 pub ok_both : {X E : Type 0} (x y : X) (bs rest : List ℕ) → ◌≡◌ {A = Reads X E} (Ok (x, bs)) (Ok (y, rest)) → (x ≡ y) × (bs ≡ rest)
-ok_both x y bs rest e = let p = ok_same (x, bs) (y, rest) e in (ap (λ q. q.0) p, ap (λ q. q.1) p)
-
-pub never : {X E : Type 0} (x : X) (e : E) → ◌≡◌ {A = Result X E} (Err e) (Ok x) → ⊥
-never x e h = let z : ◌≡◌ {A = ℕ} 0 1 = cc in omega arith
+ok_both {X} x y bs rest e = let p : ◌≡◌ {A = X × List ℕ} (x, bs) (y, rest) = cc in (ap (λ q. q.0) p, ap (λ q. q.1) p)
 
 pub then_takes : {X Y E : Type 0} (p : Reads X E) (q : X → List ℕ → Reads Y E) (y : Y) (rest : List ℕ) → then p q ≡ Ok (y, rest) → (x : X) × (mid : List ℕ) × (p ≡ Ok (x, mid)) × (q x mid ≡ Ok (y, rest))
 then_takes (Ok p) q y rest h = (p.0, p.1, refl, h)
-then_takes (Err e) q y rest h = absurd (never (y, rest) e h)
+then_takes (Err e) q y rest h = cc
 
 word_takes : (bs : List ℕ) (w : ℤ) (rest : List ℕ) → word bs ≡ Ok (w, rest) → (4 ≤ length bs) × (number bs ≡ w) × (drop 4 bs ≡ rest)
 word_takes bs w rest h = go (leb 4 (length bs)) refl h
   where
     go : (b : Bool) → leb 4 (length bs) ≡ b → cond {A = Reads ℤ Fault} b (Ok (number bs, drop 4 bs)) (Err fault.Short) ≡ Ok (w, rest) → (4 ≤ length bs) × (number bs ≡ w) × (drop 4 bs ≡ rest)
     go true e k = let p = ok_both _ _ _ _ k in (leb-true 4 (length bs) e, p.0, p.1)
-    go false e k = absurd (never _ _ k)
+    go false e k = cc
 
 words_takes : (n : ℕ) (acc out : List ℤ) (bs rest : List ℕ) → words_onto n acc bs ≡ Ok (out, rest) → (ws : List ℤ) × (out ≡ acc ++ ws) × (length ws ≡ n) × Spells ws bs rest
 unfolding words_onto
@@ -64,7 +59,7 @@ Made width f x us = (length us ≡ width) × (f us ≡ Ok x)
 
 leaving_takes : {X E : Type 0} (r : Result X E) (mid : List ℕ) (x : X) (rest : List ℕ) → leaving mid r ≡ Ok (x, rest) → (r ≡ Ok x) × (mid ≡ rest)
 leaving_takes (Ok y) mid x rest h = let p = ok_both _ _ _ _ h in (ap (λ v. Ok v) p.0, p.1)
-leaving_takes (Err e) mid x rest h = absurd (never _ _ h)
+leaving_takes (Err e) mid x rest h = cc
 
 pub exact_record : {X : Type 0} (width : ℕ) (f : List ℤ → Result X Fault) → Exact (one_record width f) (Made width f)
 exact_record {X} width f = record { takes = record_takes; gives = record_gives }
@@ -81,11 +76,11 @@ exact_record {X} width f = record { takes = record_takes; gives = record_gives }
         let e : words width bs ≡ Ok (ws, rest) = subst (λ n. words n bs ≡ Ok (ws, rest)) m.0 (words_gives [] ws bs rest s) in
         ap (λ p. then p (λ us r. leaving r (f us))) e ∙ ap (leaving rest) m.1
 
-placed_takes : {X : Type 0} (section at : ℕ) (r : Result X Fault) (x : X) → placed section at r ≡ Ok x → r ≡ Ok x
-placed_takes section at (Ok y) x h = ap (λ v. Ok v) (ok_same y x h)
-placed_takes section at (Err e) x h = absurd (never _ _ h)
+placed_takes : {X : Type 0} (section : Section) (at : ℕ) (r : Result X Fault) (x : X) → placed section at r ≡ Ok x → r ≡ Ok x
+placed_takes section at (Ok y) x h = cc
+placed_takes section at (Err e) x h = cc
 
-pub exact_placed : {X : Type 0} (section at : ℕ) (P : List ℕ → Reads X Fault) (R : X → List ℤ → Type 0) → Exact P R → Exact (λ bs. placed section at (P bs)) R
+pub exact_placed : {X : Type 0} (section : Section) (at : ℕ) (P : List ℕ → Reads X Fault) (R : X → List ℤ → Type 0) → Exact P R → Exact (λ bs. placed section at (P bs)) R
 exact_placed section at P R e =
     record {
       takes = λ x bs rest h. e.takes x bs rest (placed_takes section at (P bs) (x, rest) h);

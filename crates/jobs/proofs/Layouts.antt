@@ -8,7 +8,7 @@ use Rattle.jobs.specs.declared.job.Move.TheVariants.{Pose}
 use Rattle.setups.specs.Clamps.{clamp_fault}
 use Rattle.jobs.specs.Items.{nth, refusing, is_kind, Extent, extent_of, Turned, flat, cone, ball, turned_pitch, turned_fault, fitted, known, turned_in, turned_of, height_of, clamp_in, clamp_of, move_of}
 use Rattle.jobs.specs.Encodings.{GridWords, CutterWords, HeightWords, ClampWords, MoveWords}
-use Rattle.jobs.proofs.Exactness.{Made, never, ok_same}
+use Rattle.jobs.proofs.Exactness.{Made}
 use Rattle.jobs.proofs.Checks.{refusing_takes, cond_takes, kind_takes, within_pos, grid_in}
 
 -- the values of f below n, in their order
@@ -43,7 +43,7 @@ grid_takes g us m =
     let r = within_pos 1 512 (nth us 1) i.1 in
     let p = within_pos 10 1000 (nth us 2) i.2 in
     let d = cond_takes (leb (nat_abs (nth us 0) * nat_abs (nth us 1)) 4096) _ fault.Count g t.1 in
-    let e = ok_same _ g d.1 in
+    let e : record { columns = nat_abs (nth us 0); rows = nat_abs (nth us 1); pitch = nat_abs (nth us 2) } ≡ g = cc in
     let ec : pos g.columns ≡ nth us 0 = ap (λ x. pos x.columns) (sym e) ∙ c in
     let er : pos g.rows ≡ nth us 1 = ap (λ x. pos x.rows) (sym e) ∙ r in
     let ep : pos g.pitch ≡ nth us 2 = ap (λ x. pos x.pitch) (sym e) ∙ p in
@@ -61,10 +61,10 @@ Fitted pitch t = (turned_pitch t ≡ pitch) × (turned_fault t ≡ None)
 
 known_takes : (o : Option Turned) (t : Turned) → known o ≡ Ok t → (o ≡ Some t) × (turned_fault t ≡ None)
 unfolding fitted
-known_takes None t h = absurd (never _ _ h)
+known_takes None t h = cc
 known_takes (Some u) t h =
     let r = refusing_takes (turned_fault u) (Ok u) t h in
-    let e = ok_same u t r.1 in
+    let e : u ≡ t = cc in
     (ap Some e, subst (λ x. turned_fault x ≡ None) e r.0)
 
 -- the words of a cutter, and its pitch
@@ -80,7 +80,7 @@ kinds : (pitch : ℕ) (us : List ℤ) (t : Turned) (a b c : Bool) → us ≡ nth
 kinds pitch us t true b c s one two three h = subst (Worded pitch us) (some_same _ t h) ((nth us 2, nth us 3, s ∙ ap (λ k. k ∷ nth us 1 ∷ nth us 2 ∷ nth us 3 ∷ []) (one refl)), refl)
 kinds pitch us t false true c s one two three h = subst (Worded pitch us) (some_same _ t h) (s ∙ ap (λ k. k ∷ nth us 1 ∷ nth us 2 ∷ nth us 3 ∷ []) (two refl), refl)
 kinds pitch us t false false true s one two three h = subst (Worded pitch us) (some_same _ t h) ((nth us 2, nth us 3, s ∙ ap (λ k. k ∷ nth us 1 ∷ nth us 2 ∷ nth us 3 ∷ []) (three refl)), refl)
-kinds pitch us t false false false s one two three h = absurd (let z : ◌≡◌ {A = ℕ} 0 1 = cc in omega arith)
+kinds pitch us t false false false s one two three h = cc
 
 pub cutter_takes : (pitch : ℕ) (t : Turned) (us : List ℤ) → Made 4 (turned_of pitch) t us → CutterWords t us × Fitted pitch t
 unfolding tabled
@@ -100,7 +100,7 @@ cutter_gives pitch (ball p r) us w a =
 
 pub height_takes : (z : ℤ) (us : List ℤ) → Made 1 height_of z us → HeightWords z us × Unit {0}
 unfolding tabled
-height_takes z us m = (spread 1 us m.0 ∙ ap (λ x. x ∷ []) (ok_same _ z m.1), tt)
+height_takes z us m = (spread 1 us m.0 ∙ ap (λ x. x ∷ []) (let e : nth us 0 ≡ z = cc in e), tt)
 
 pub height_gives : (z : ℤ) (us : List ℤ) → HeightWords z us → Unit {0} → Made 1 height_of z us
 height_gives z us w a = subst (λ v. Made 1 height_of z v) (sym w) (refl, refl)
@@ -109,7 +109,7 @@ pub clamp_takes : (columns rows : ℕ) (k : Clamp) (us : List ℤ) → Made 5 (c
 unfolding tabled
 clamp_takes columns rows k us m =
     let t = refusing_takes (clamp_fault columns rows (clamp_in us)) _ k m.1 in
-    let e = ok_same (clamp_in us) k t.1 in (
+    let e : clamp_in us ≡ k = cc in (
       spread 5 us m.0 ∙ ap (λ x. x.columns.first ∷ x.rows.first ∷ x.columns.last ∷ x.rows.last ∷ x.height ∷ []) e,
       subst (λ x. clamp_fault columns rows x ≡ None) e t.0,
     )
@@ -120,14 +120,11 @@ clamp_gives columns rows k us w a =
 
 pub move_takes : (m : Move) (us : List ℤ) → Made 7 move_of m us → MoveWords m us × Unit {0}
 unfolding tabled
-move_takes (Pose column row tip) us m =
-    let k = cond_takes (is_kind 1 (nth us 0)) (Ok (Pose (nth us 1) (nth us 2) (nth us 3))) fault.Kind (Pose column row tip) m.1 in
-    let e = ok_same (Pose (nth us 1) (nth us 2) (nth us 3)) (Pose column row tip) k.1 in
+move_takes (Pose p) us m =
+    let k = cond_takes (is_kind 1 (nth us 0)) (Ok (Pose (record { column = nth us 1; row = nth us 2; tip = nth us 3 }))) fault.Kind (Pose p) m.1 in
+    let e : record { column = nth us 1; row = nth us 2; tip = nth us 3 } ≡ p = cc in
     let ek = kind_takes 1 (nth us 0) k.0 in
-    let ec : nth us 1 ≡ column = cc in
-    let er : nth us 2 ≡ row = cc in
-    let et : nth us 3 ≡ tip = cc in
-    ((nth us 4, nth us 5, nth us 6, spread 7 us m.0 ∙ rw (ek, ec, er, et)), tt)
+    ((nth us 4, nth us 5, nth us 6, spread 7 us m.0 ∙ ap (λ w. w ∷ nth us 1 ∷ nth us 2 ∷ nth us 3 ∷ nth us 4 ∷ nth us 5 ∷ nth us 6 ∷ []) ek ∙ ap (λ q. pos 1 ∷ q.column ∷ q.row ∷ q.tip ∷ nth us 4 ∷ nth us 5 ∷ nth us 6 ∷ []) e), tt)
 
 pub move_gives : (m : Move) (us : List ℤ) → MoveWords m us → Unit {0} → Made 7 move_of m us
-move_gives (Pose column row tip) us w a = subst (λ v. Made 7 move_of (Pose column row tip) v) (sym w.3) (refl, refl)
+move_gives (Pose p) us w a = subst (λ v. Made 7 move_of (Pose p) v) (sym w.3) (refl, refl)

@@ -3,7 +3,5 @@ pub mod ExactJobs
 pub mod ExactRuns
 pub mod ExactSections
 pub mod Exactness
-pub mod Fitting
 pub mod Layouts
-pub mod RecordTurns
-pub mod WordTurns
+pub mod Turns

@@ -33,7 +33,7 @@ abbrev pub ClampWords : Clamp → List ℤ → Type 0
 ClampWords k ws = ws ≡ k.columns.first ∷ k.rows.first ∷ k.columns.last ∷ k.rows.last ∷ k.height ∷ []
 
 abbrev pub MoveWords : Move → List ℤ → Type 0
-MoveWords (Pose column row tip) ws = (a : ℤ) × (b : ℤ) × (d : ℤ) × (ws ≡ pos 1 ∷ column ∷ row ∷ tip ∷ a ∷ b ∷ d ∷ [])
+MoveWords (Pose p) ws = (a : ℤ) × (b : ℤ) × (d : ℤ) × (ws ≡ pos 1 ∷ p.column ∷ p.row ∷ p.tip ∷ a ∷ b ∷ d ∷ [])
 
 -- the words ws are those of the items xs in turn, each with words as L says
 abbrev pub InTurn : {X : Type 0} → (X → List ℤ → Type 0) → List X → List ℤ → Type 0

@@ -59,9 +59,9 @@ pub data Turned : Type 0 where
 
 -- the numbers of a round cutter
 abbrev pub turned : RoundTool → Turned
-turned (Flat t) = flat t.pitch.microns (pos t.radius)
-turned (Cone t) = cone t.pitch.microns (pos t.radius) (pos t.tip) (pos t.rise)
-turned (Ball t) = ball t.pitch.microns (pos t.radius)
+turned (Flat t) = flat t.disc.pitch.microns (pos t.disc.radius)
+turned (Cone t) = cone t.disc.pitch.microns (pos t.disc.radius) (pos t.tip) (pos t.rise)
+turned (Ball t) = ball t.disc.pitch.microns (pos t.disc.radius)
 
 -- the pitch that a round cutter is drawn for
 abbrev pub turned_pitch : Turned → ℕ
@@ -109,4 +109,4 @@ clamp_of columns rows ws = refusing (clamp_fault columns rows (clamp_in ws)) (Ok
 
 -- kind, column, row and tip, and three words that are ignored
 abbrev pub move_of : List ℤ → Result Move Fault
-move_of ws = cond (is_kind 1 (nth ws 0)) (Ok (Pose (nth ws 1) (nth ws 2) (nth ws 3))) (Err fault.Kind)
+move_of ws = cond (is_kind 1 (nth ws 0)) (Ok (Pose (record { column = nth ws 1; row = nth ws 2; tip = nth ws 3 }))) (Err fault.Kind)

@@ -1,10 +1,13 @@
 // Why a job is bad.
+use crate::Section;
 use zmap::Fault;
 
-// The first fault of a job, with its section, from 1, and its record there, from 0; a job too long has section 0.
-#[derive(Clone, Copy)]
+mod wording;
+
+// The first fault of a job, with its section and its record there, from 0.
+#[derive(Clone, Copy, Debug)]
 pub struct Bad {
     pub fault: Fault,
-    pub section: u32,
+    pub section: Section,
     pub at: usize,
 }

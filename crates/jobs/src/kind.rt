@@ -11,12 +11,17 @@ use zmap::Fault;
 pub(crate) trait Kind {
     type Item: Drop;
 
-    ghost width: { Self → ℕ };
+    // The item in plain numbers.
+    ghost Told: { Type 0 };
 
-    ghost item: { Self → List ℤ → Outcome Self.Item Refusal };
+    ghost told: { Self.Item → Told };
 
-    // The item of the next record.
+    ghost width: { ℕ };
+
+    ghost item: { Self → List ℤ → Outcome Told Refusal };
+
+    // Reads the item of the next record.
     fn read(&self, input: &mut Reader<'_>) -> Result<Self::Item, Fault>
-        ensures gives { Gives (λ x. x) result input.new.rest.now (one_record (width self.now) (item self.now) input.old.rest.now) }
-        ensures takes { OnOk result (length input.new.rest.now + 4 * width self.now ≡ length input.old.rest.now) };
+        ensures gives { Gives told result input.new.rest.now (one_record width (item self.now) input.old.rest.now) }
+        ensures takes { OnOk result (length input.new.rest.now + 4 * width ≡ length input.old.rest.now) };
 }

@@ -12,26 +12,25 @@ pub(crate) struct Reader<'a> {
 }
 
 impl Reader<'_> {
-    // The next word.
+    // Reads the next word.
     fn word(&mut self) -> Result<i32, Fault>
         ensures gives { Gives (λ w. w) result self.new.rest.now (word self.old.rest.now) }
         ensures takes { OnOk result (length self.new.rest.now + 4 ≡ length self.old.rest.now) }
     {
-        let Some((bytes, rest)) = self.rest.split_first_chunk::<4>() else {
-            return Err(Fault::Short);
-        };
+        let (bytes, rest) = self.rest.split_first_chunk::<4>().ok_or(Fault::Short)?;
         self.rest = rest;
         Ok(i32::from_le_bytes(*bytes))
     }
 
-    // The next N words.
+    // Reads the next N words.
+    #[tactic(auto, using(crate::proofs::Turns::words_more, crate::proofs::Turns::words_stop, crate::proofs::Turns::words_done))]
     pub(crate) fn words<const N: usize>(&mut self) -> Result<[i32; N], Fault>
         ensures gives { Gives (λ ws. ws) result self.new.rest.now (words N self.old.rest.now) }
         ensures takes { OnOk result (length self.new.rest.now + 4 * N ≡ length self.old.rest.now) }
     {
         let mut out = [0; N];
-        for i in 0..N {
-            out[i] = self.word()?;
+        for word in out.iter_mut() {
+            *word = self.word()?;
         }
         Ok(out)
     }

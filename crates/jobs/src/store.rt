@@ -1,21 +1,24 @@
 // The memory that a job is read into.
-ghost use Rattle.std.specs.Prelude.{◌≡◌, ◌≤◌, [], vec_capacity};
-
 use crate::Move;
+use crate::empty::Empty;
 use setups::Clamp;
+use std::alloc::{AllocError, Global};
 
-mod making;
-
-// Room for the largest job: 4,096 heights, 16 clamps, and the moves of 28 bytes each that 65,536 bytes hold; nothing is in it yet.
+// Room for the largest job: 4,096 heights, 16 clamps, and the moves of 28 bytes each that 65,536 bytes hold.
 #[derive(Drop)]
 pub struct Store {
-    pub heights: Vec<i32>,
-    pub clamps: Vec<Clamp>,
-    pub moves: Vec<Move>,
-    ghost bare: { heights.items ≡ [] },
-    ghost loose: { clamps.items ≡ [] },
-    ghost still: { moves.items ≡ [] },
-    ghost wide: { 4096 ≤ vec_capacity heights },
-    ghost firm: { 16 ≤ vec_capacity clamps },
-    ghost long: { 2340 ≤ vec_capacity moves },
+    pub(crate) heights: Empty<i32, 4096>,
+    pub(crate) clamps: Empty<Clamp, 16>,
+    pub(crate) moves: Empty<Move, 2340>,
+}
+
+impl Store {
+    // Asks once for the memory of a job, before its bytes are looked at, so that reading never wants for memory.
+    pub fn new(heap: Global) -> Result<Store, AllocError> {
+        Ok(Store {
+            heights: Empty::new(heap)?,
+            clamps: Empty::new(heap)?,
+            moves: Empty::new(heap)?,
+        })
+    }
 }
