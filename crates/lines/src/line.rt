@@ -1,4 +1,5 @@
 // The lines that the program prints.
+use jobs::Bad;
 use milling::Removed;
 use zmap::Fault;
 
@@ -10,10 +11,6 @@ pub enum Line {
         number: usize,
         answer: Result<Removed, Fault>,
     },
-    // why a job is bad, with the section and the record there
-    Bad {
-        fault: Fault,
-        section: u32,
-        at: usize,
-    },
+    // why a job is bad
+    Bad(Bad),
 }

@@ -24,10 +24,7 @@ impl fmt::Display for Line {
                 number,
                 answer: Err(fault),
             } => write!(f, "{number} no {fault}"),
-            Line::Bad { fault, section, at } => {
-                let code = fault.parts().number;
-                write!(f, "bad {code} {section} {at}")
-            }
+            Line::Bad(bad) => write!(f, "{bad}"),
         }
     }
 }

@@ -4,8 +4,7 @@ pub(crate) mod changes;
 pub(crate) mod lengths;
 
 use crate::answer::{Outcome, Taken, index};
-use jobs::{Store, read};
-use lines::Line;
+use jobs::{Bad, Store, read};
 use std::alloc::{AllocError, Global};
 
 // The words of three columns and two rows at pitch 100, a flat cutter of radius 150, six heights, two clamps and two poses.
@@ -51,18 +50,11 @@ pub(crate) fn built(heap: Global, amounts: [i32; 7]) -> Result<Reading, AllocErr
     outcome(heap, bytes.as_slice())
 }
 
-// That bytes are a job, or the line of a bad one.
-pub(crate) type Reading = Outcome<Taken, Line>;
+// That bytes are a job, or why not.
+pub(crate) type Reading = Outcome<Taken, Bad>;
 
 fn outcome(heap: Global, bytes: &[u8]) -> Result<Reading, AllocError> {
-    let outcome = read(Store::new(heap)?, bytes);
-    Ok(Outcome(
-        outcome.map(|_| Taken).map_err(|bad| Line::Bad {
-            fault: bad.fault,
-            section: bad.section,
-            at: bad.at,
-        }),
-    ))
+    Ok(Outcome(read(Store::new(heap)?, bytes).map(|_| Taken)))
 }
 
 // Adds the bytes of the words.

@@ -1,8 +1,8 @@
 -- The clamps of a job that was read fit its grid.
 use Rattle.std.proofs.Common.{sym, ap}
 use Rattle.fields.specs.declared.raster.Raster.{Raster}
-use Rattle.plan.proofs.Adding.{fresh_as}
-use Rattle.plan.proofs.job.carry_out.Goals as goal
+use Rattle.runs.proofs.Adding.{fresh_as}
+use Rattle.runs.proofs.guard.locked.Goals as goal
 
 pub add_all-requires : goal.add_all-requires
 add_all-requires c =

@@ -1,0 +1,7 @@
+// Jobs carried out: what is cut against, the cuts, and a line for each move.
+#![tactic(auto)]
+
+mod guard;
+mod printing;
+
+pub use printing::print;
