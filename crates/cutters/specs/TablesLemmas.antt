@@ -1,10 +1,10 @@
 -- The table of a measured cutter, by offset: its laws, an entry read, an entry written. Assumes nothing.
-use Rattle.std.specs.Prelude.{◌≡◌, ℕ, ◌<◌, true, ◌&&◌, replicate, get_or, ℤ, pos, negsuc, ◌+ℤ◌, ◌≤ℤ◌, Some}
+use Rattle.std.specs.Prelude.{◌≡◌, ℕ, ◌<◌, true, replicate, get_or, ℤ, pos, negsuc, ◌+ℤ◌, ◌≤ℤ◌, Some}
 use Rattle.std.proofs.Common.{sym, ap, subst, ◌∙◌, arith}
 use Rattle.std.proofs.lemmas.Int.{ints}
 use Rattle.std.proofs.lemmas.Option.{none-some}
 use Rattle.cutters.specs.Cells.{cell}
-use Rattle.cutters.specs.Entries.{Entry, index, is_allowed, is_close}
+use Rattle.cutters.specs.Entries.{Entry, index, has_entry, is_allowed}
 use Rattle.cutters.specs.Profiles.{Lawful, Near}
 use Rattle.cutters.specs.Tables.{Blank, MeasuredDrawn, Written, entry_at, height_of, measured_shape}
 use Rattle.cutters.specs.declared.row.Row.{Row}
@@ -12,7 +12,7 @@ use Rattle.cutters.specs.declared.table.Table.{Table}
 use Rattle.cutters.specs.CellsLemmas.{Put, cell_is, cell_ranged, cell_same}
 use Rattle.zmap.specs.declared.node.Offset.{Offset}
 
-pub near_close : (o : Offset) → (is_close o.dx && is_close o.dy) ≡ true → Near 7 o
+pub near_close : (o : Offset) → has_entry o ≡ true → Near 7 o
 near_close o b = record { west = grind (arith, ints); east = grind (arith, ints); north = grind (arith, ints); south = grind (arith, ints) }
 
 -- the index is the number of rows or columns from −7 on
@@ -66,7 +66,7 @@ pub entry_read : (t : Table) (o : Offset) (i j : ℕ) (d : Row) → i ≡ index 
 entry_read t o i j d e f l = sym (cell_is t.rows i j d (omega (arith, t.sized))) ∙ entry_is t o i j e f
 
 -- what the cutter answers at an offset that is covered
-pub entry_drawn : (t : Table) (o : Offset) (z : ℤ) → z ≡ entry_at t o → (is_close o.dx && is_close o.dy) ≡ true → MeasuredDrawn t o (height_of z)
+pub entry_drawn : (t : Table) (o : Offset) (z : ℤ) → z ≡ entry_at t o → has_entry o ≡ true → MeasuredDrawn t o (height_of z)
 entry_drawn t o z e b = let n = near_close o b in drawn_told t o z (sym e) n (subst Entry (sym e) (entry_ranged t o n))
 
 pub written : (t t' : Table) (o : Offset) (z z' : ℤ) (i j : ℕ) → z' ≡ z → i ≡ index o.dy → j ≡ index o.dx → Near 7 o → Put t.rows i j z' t'.rows → Written t o z t'
