@@ -8,7 +8,8 @@ use Rattle.zmap.specs.declared.node.Node.{Node}
 use Rattle.zmap.specs.declared.sample.Sample.{Sample}
 use Rattle.setups.specs.declared.clamp.Clamp.{Clamp}
 use Rattle.setups.specs.LayerHeight.{layered_height}
-use Rattle.setups.specs.Surfaces.{Stands, setup_sample}
+use Rattle.setups.specs.Layers.{layered}
+use Rattle.setups.specs.Surfaces.{Stands}
 use Rattle.setups.proofs.Layering.{classed}
 use Rattle.setups.specs.Tables.{Tops, is_over, lifted, raised_by}
 
@@ -36,6 +37,6 @@ tops n z (k ∷ ks) =
           rest.reached;
     }
 
-pub stands_as : {ks : List Clamp} {n : Node} {s t : Sample} → t ≡ setup_sample ks n s → Stands ks n s t
+pub stands_as : {ks : List Clamp} {n : Node} {s t : Sample} → t ≡ layered Fixture s (raised_by n s.height ks) → Stands ks n s t
 stands_as {ks} {n} {s} e =
     subst (Stands ks n s) (sym e) (record { height = subst (Tops n s.height ks) (sym (layered_height Fixture s _)) (tops n s.height ks); class = classed Fixture s _ })

@@ -23,5 +23,6 @@ raised_in_range n z (k ∷ ks) h hs =
     raised_in_range n (lifted n z k) ks (lifted_in_range n z k h (hs 0 k (omega arith))) (All-tail (λ x. Height x.height) k ks hs)
 
 pub setup_in_range : (t : Clamps) (n : Node) (s : Sample) → Height s.height → Height (setup_sample (clamps_of t) n s).height
+unfolding setup_sample
 setup_in_range t n s h =
     subst Height (sym (layered_height Fixture s (raised_by n s.height (clamps_of t)))) (raised_in_range n s.height (clamps_of t) h (All-take (λ x. Height x.height) t.count t.entries t.high))

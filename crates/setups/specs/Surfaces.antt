@@ -11,7 +11,7 @@ use Rattle.setups.specs.Layers.{Classed, layered}
 use Rattle.setups.specs.Tables.{clamps_of, raised_by, Tops}
 
 -- the sample below, or class fixture where the clamps stand higher
-abbrev pub setup_sample : List Clamp → Node → Sample → Sample
+unfoldable pub setup_sample : List Clamp → Node → Sample → Sample
 setup_sample ks n s = layered Fixture s (raised_by n s.height ks)
 
 -- what a locked set-up stands for: the surface below, under its clamps

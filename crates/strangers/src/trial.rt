@@ -1,11 +1,12 @@
 // The trial: a ramp under two clamps, cut by a hook, with a line for each pose and one for each row of the block.
-ghost use Rattle.std.specs.Prelude.{◌≡◌, [], ◌∷◌, IfOk, Some, None, MatchResult};
+ghost use Rattle.std.specs.Prelude.{◌≡◌, [], ◌∷◌, IfOk};
+ghost use Rattle.setups.specs.Clamps.{FaultIs};
 ghost use Rattle.setups.specs.Tables.{clamps_of, Raised};
 ghost use Rattle.strangers.specs.Trials.{clamped_fault};
 
 use crate::hook::Hook;
 use crate::ramp::Ramp;
-use anyhow::anyhow;
+use anyhow::Context;
 use cutters::Cutter;
 use lines::Line;
 use milling::pose;
@@ -39,12 +40,8 @@ const POSES: [(i32, i32, i32); 12] = [
 
 // Makes the ramp, its set-up, a new block and the hook, and prints what came of the poses.
 pub(crate) fn print(rt: &HostRuntime) -> anyhow::Result<()> {
-    let Ok(grid) = Grid::new(4, 3, 100) else {
-        return Err(anyhow!("no grid"));
-    };
-    let Some(ramp) = Ramp::new(grid, 499400, 250) else {
-        return Err(anyhow!("no ramp"));
-    };
+    let grid = Grid::new(4, 3, 100).ok().context("no grid")?;
+    let ramp = Ramp::new(grid, 499400, 250).context("no ramp")?;
     let low = Clamp {
         columns: Span { first: 0, last: 1 },
         rows: Span { first: 2, last: 2 },
@@ -55,13 +52,9 @@ pub(crate) fn print(rt: &HostRuntime) -> anyhow::Result<()> {
         rows: Span { first: 0, last: 0 },
         height: 499950,
     };
-    let Ok(guard) = clamped(ramp, low, high, 499700) else {
-        return Err(anyhow!("no set-up"));
-    };
+    let guard = clamped(ramp, low, high, 499700).ok().context("no set-up")?;
     let mut block = [0; 12];
-    let Ok(()) = milling::new(&grid, &mut block) else {
-        return Err(anyhow!("no block"));
-    };
+    milling::new(&grid, &mut block).ok().context("no block")?;
     let hook = Hook { pitch: grid.pitch };
     cut_all(rt, &guard, &hook, &mut block)?;
     for row in block.chunks(4) {
@@ -70,27 +63,20 @@ pub(crate) fn print(rt: &HostRuntime) -> anyhow::Result<()> {
     Ok(())
 }
 
-// The field under two clamps, of which the first is then raised, locked; or the first refusal.
+// Locks the field under two clamps, of which the first is raised before; or answers the first refusal.
 fn clamped<F: Field + Drop>(
     field: F,
     first: Clamp,
     second: Clamp,
     height: i32,
 ) -> Result<Setup<F>, Fault>
-    ensures accepts { MatchResult result (λ m. clamped_fault (F.Field.extent field) first second height ≡ None) (λ e. clamped_fault (F.Field.extent field) first second height ≡ Some e) }
+    ensures accepts { FaultIs result (clamped_fault (F.Field.extent field) first second height) }
     ensures holds { IfOk result (λ m. (m.below ≡ field) × Raised (first ∷ second ∷ []) 0 height (clamps_of m.clamps)) }
 {
     let mut setup = OpenSetup::new(field);
-    let number = match setup.add(first) {
-        Ok(i) => i,
-        Err(fault) => return Err(fault),
-    };
-    if let Err(fault) = setup.add(second) {
-        return Err(fault);
-    }
-    if let Err(fault) = setup.raise(number, height) {
-        return Err(fault);
-    }
+    let number = setup.add(first)?;
+    setup.add(second)?;
+    setup.raise(number, height)?;
     Ok(setup.lock())
 }
 
@@ -101,10 +87,9 @@ fn cut_all<F: Field, C: Cutter>(
     cutter: &C,
     block: &mut [i32],
 ) -> anyhow::Result<()> {
-    for (i, p) in POSES.iter().enumerate() {
-        let (column, row, tip) = *p;
-        let answer = pose(guard, cutter, block, column, row, tip);
-        rt.println(Line::of_move(i + 1, answer).text(rt.alloc())?)?;
+    for (i, &(column, row, tip)) in POSES.iter().enumerate() {
+        let line = Line::of_move(i + 1, pose(guard, cutter, block, column, row, tip));
+        println!(rt; "{line}")?;
     }
     Ok(())
 }

@@ -20,6 +20,7 @@ impl<F: Field> Field for Setup<F> {
         self.below.grid()
     }
 
+    #[tactic(auto, unfolding(crate::specs::Surfaces::setup_sample))]
     fn sample(&self, n: Node) -> Option<Sample>
         ensures value { MatchOption result (On (F.Field.extent self.now.below) n → ⊥) (λ s. On (F.Field.extent self.now.below) n × (s ≡ setup_sample (clamps_of self.now.clamps) n (F.Field.surface self.now.below n))) }
         ensures stands { IfSome result (λ s. Stands (clamps_of self.now.clamps) n (F.Field.surface self.now.below n) s) }

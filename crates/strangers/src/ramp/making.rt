@@ -7,7 +7,7 @@ use zmap::Grid;
 use zmap::heights::{CEILING, FLOOR};
 
 impl Ramp {
-    // A ramp of such a base and step, or nothing where the base is no height or the step is above 1,000,000.
+    // Makes a ramp of such a base and step, or answers nothing where the base is no height or the step is above 1,000,000.
     pub fn new(grid: Grid, base: i32, step: u32) -> Option<Ramp>
         ensures accepts { MatchOption result (is_ramp base step ≡ false) (λ x. is_ramp base step ≡ true) }
         ensures holds { IfSome result (λ x. (x.grid ≡ grid) × (x.base ≡ base) × (x.step ≡ step)) }

@@ -1,6 +1,5 @@
 // A ramp as a field.
 ghost use Rattle.std.specs.Prelude.{◌≡◌, ◌*◌, ◌<◌, ◌≤◌};
-ghost use Rattle.zmap.specs.Limits.{Height};
 ghost use Rattle.strangers.specs.RampRange.{ramp_in_range};
 ghost use Rattle.strangers.specs.Ramps.{ramp_class, ramp_height, ramp_sample};
 
@@ -24,34 +23,38 @@ impl Field for Ramp {
             return None;
         }
         Some(Sample {
-            height: height_at(self.base, self.step, n.column),
+            height: self.height_at(n.column),
             class: class_at(n.column),
         })
     }
 }
 
-// The height at a column.
-fn height_at(base: i32, step: u32, column: usize) -> i32
-    requires { (Height base) × ((step ≤ 1000000) × (column < 512)) }
-    ensures { result ≡ ramp_height base step column }
-{
-    (base + climb(step, column) as i32).min(CEILING)
+impl Ramp {
+    // Answers the height at a column.
+    fn height_at(&self, column: usize) -> i32
+        requires { column < 512 }
+        ensures { result ≡ ramp_height self.now.base self.now.step column }
+    {
+        (self.base + self.climb(column) as i32).min(CEILING)
+    }
+
+    // Answers how far a column stands above column 0, were there no ceiling.
+    fn climb(&self, column: usize) -> u32
+        requires { column < 512 }
+        ensures value { result ≡ self.now.step * column }
+        ensures small { result ≤ 512000000 }
+    {
+        self.step * column as u32
+    }
 }
 
-// How far a column stands above column 0, were there no ceiling.
-fn climb(step: u32, column: usize) -> u32
-    requires { (step ≤ 1000000) × (column < 512) }
-    ensures { (result ≡ step * column) × (result ≤ 512000000) }
-{
-    step * column as u32
-}
-
-// The class at a column: part and allowance by turns.
+// Answers the class at a column: part and allowance by turns.
 fn class_at(column: usize) -> Class
     ensures { result ≡ ramp_class column }
 {
     if column % 2 == 0 {
-        return Class::Part;
+        Class::Part
+    } else {
+        Class::Allowance
     }
-    Class::Allowance
 }
