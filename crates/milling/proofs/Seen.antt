@@ -21,13 +21,12 @@ under_stood p {o} stood =
     record { on = stood.on; rise = stood.rise; covers = record { offset = o; at = stood.at; rise = stood.covers }; level = stood.level }
 
 pub first_found : {g : Grid} {G : Surface} {P : Profile} (p : Pose) (os : List Offset) (j i : ℕ) (d : Offset) (s : Node) (k : Class) →
-    Ring os → Lawful j P → i < length os → Each g P p os i (λ t u. (G t).height ≤ℤ u) → InvadedAt g G P p (get_or os i d) s k → First g G P p s
+    Ring os → Lawful j P → Each g P p os i (λ t u. (G t).height ≤ℤ u) → InvadedAt g G P p (get_or os i d) s k → First g G P p s
 unfolding under_stood
-first_found {g} {G} {P} p os j i d s k ring lawful lt so at =
-    let near : i < 961 = omega (arith, ring.size) in
+first_found {g} {G} {P} p os j i d s k ring lawful so at =
     record {
       invades = record { level = at.level; under = under_stood p at.stood; below = at.below };
-      first = λ t u w before. each_before os (λ t u. (G t).height ≤ℤ u) j i d ring lawful near so t u w before;
+      first = λ t u w before. each_before os (λ t u. (G t).height ≤ℤ u) j i d ring lawful so t u w before;
     }
 
 -- ---- the contact so far
