@@ -37,9 +37,6 @@ pub record Met (g : Grid) (G : Surface) (P : Profile) (p : Pose) (os : List Offs
   pub reached : (k ≡ Clear) ⊎ ((s : Node) × (u : ℤ) × Under g P p s u × (u ≡ (G s).height) × (k ≡ contact_of (G s).class))
 
 module _ {g : Grid} {G : Surface} {P : Profile} (p : Pose) (os : List Offset) where
-  pub met_none : Met g G P p os 0 Clear
-  met_none = record { bounds = each_none os _; reached = inl refl }
-
   pub met_more : (i : ℕ) (d : Offset) (k m r : Contact) → i < length os → Met g G P p os i k → MetAt g G P p (get_or os i d) m → Higher k m r → Met g G P p os (i + 1) r
   met_more i d k m r lt so at high =
       record {
