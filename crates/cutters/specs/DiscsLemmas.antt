@@ -1,18 +1,13 @@
 -- A disc covers the tip, and nothing past 15 columns and rows where its radius is below 16 pitches. Assumes nothing.
-use Rattle.std.specs.Prelude.{◌≡◌, ℕ, ◌+◌, ◌*◌, ◌<◌, ◌≤◌, Bool, true, false, cond, ℤ, Some, None, FitsSigned, ◌≢◌, unsigned_abs}
-use Rattle.std.proofs.Common.{sym, ap, ◌∙◌, inl, inr, arith, to_z, of_z}
-use Rattle.std.specs.Int.{w32}
+use Rattle.std.specs.Prelude.{◌≡◌, ℕ, ◌+◌, ◌*◌, ◌<◌, ◌≤◌, true, false, cond, Some, None, unsigned_abs}
+use Rattle.std.proofs.Common.{arith}
 use Rattle.std.proofs.lemmas.Nat.{mul-le, mul-lt}
-use Rattle.std.proofs.lemmas.Int.{to_z-of_z}
-use Rattle.std.proofs.lemmas.Bool.{cases_lt, cases_Bool, cond-true, cond-false, both_ways, leb-true, leb-false, le-leb, lt-leb, and_from}
+use Rattle.std.proofs.lemmas.Bool.{le-leb, and_from}
+use Rattle.std.proofs.lemmas.Option.{cond_some}
 use Rattle.cutters.specs.Discs.{square, in_disc}
 use Rattle.cutters.specs.Profiles.{Near, Lawful, centre}
 use Rattle.cutters.specs.Order.{near_from}
 use Rattle.zmap.specs.declared.node.Offset.{Offset}
-
--- what unsigned_abs tells, without its casts
-pub abs_told : (z : ℤ) {n : ℕ} → FitsSigned w32 z → n ≡ unsigned_abs (to_z w32 (of_z w32 z)) → n ≡ unsigned_abs z
-abs_told z f e = simp to_z-of_z at e
 
 -- within 15 columns and rows the squares stay small
 pub disc_fits : (p x y : ℕ) → p ≤ 1000 → x ≤ 15 → y ≤ 15 → p * p * (x * x + y * y) ≤ 450000000
@@ -27,23 +22,19 @@ square_told p o e f = simp (e, f)
 
 pub disc_in : (p R : ℕ) (o : Offset) (q : ℕ) → q ≡ square p o → q ≤ R * R → in_disc p R o ≡ true
 unfolding in_disc
-disc_in p R o q e h = le-leb _ _ (omega arith)
+disc_in p R o q e h = grind arith
 
 pub disc_out : (p R : ℕ) (o : Offset) (q : ℕ) → q ≡ square p o → R * R < q → in_disc p R o ≡ false
 unfolding in_disc
-disc_out p R o q e h = lt-leb _ _ (omega arith)
+disc_out p R o q e h = grind arith
 
 pub disc_le : (p R : ℕ) (o : Offset) → in_disc p R o ≡ true → square p o ≤ R * R
 unfolding in_disc
-disc_le p R o e = leb-true _ _ e
-
--- the square of an offset that is covered
-pub square_small : (p R : ℕ) (o : Offset) (q : ℕ) → in_disc p R o ≡ true → q ≡ square p o → R ≤ 15999 → q ≤ 255968001
-square_small p R o q i e h = omega (arith, disc_le p R o i, mul-le R R 15999 15999 h h)
+disc_le p R o e = grind arith
 
 pub disc_past : (p R : ℕ) (o : Offset) → in_disc p R o ≡ false → R * R < square p o
 unfolding in_disc
-disc_past p R o e = leb-false _ _ e
+disc_past p R o e = grind arith
 
 pub square_centre : (p : ℕ) → square p centre ≡ 0
 unfolding square
@@ -57,36 +48,21 @@ far p R a b h i =
 
 pub far_x : (p R : ℕ) (o : Offset) → R < 16 * p → 15 < unsigned_abs o.dx → in_disc p R o ≡ false
 unfolding in_disc square
-far_x p R o h i = lt-leb _ _ (far p R (unsigned_abs o.dx) (unsigned_abs o.dy * unsigned_abs o.dy) h i)
+far_x p R o h i = grind (arith, far p R (unsigned_abs o.dx) (unsigned_abs o.dy * unsigned_abs o.dy) h i)
 
 pub far_y : (p R : ℕ) (o : Offset) → R < 16 * p → 15 < unsigned_abs o.dy → in_disc p R o ≡ false
 unfolding in_disc square
-far_y p R o h i = lt-leb _ _ (omega (arith, far p R (unsigned_abs o.dy) (unsigned_abs o.dx * unsigned_abs o.dx) h i))
+far_y p R o h i = grind (arith, far p R (unsigned_abs o.dy) (unsigned_abs o.dx * unsigned_abs o.dx) h i)
 
 pub disc_centre : (p R : ℕ) → in_disc p R centre ≡ true
 unfolding in_disc
-disc_centre p R = le-leb _ _ (omega (arith, square_centre p))
+disc_centre p R = grind (arith, square_centre p)
 
 pub disc_near : (p R : ℕ) (o : Offset) → R < 16 * p → in_disc p R o ≡ true → Near 15 o
 disc_near p R o h i =
-    let x : unsigned_abs o.dx ≤ 15 = elim (cases_lt 15 (unsigned_abs o.dx)) [ inl l ↦ absurd (both_ways _ (far_x p R o h l) i) | inr l ↦ l ] in
-    let y : unsigned_abs o.dy ≤ 15 = elim (cases_lt 15 (unsigned_abs o.dy)) [ inl l ↦ absurd (both_ways _ (far_y p R o h l) i) | inr l ↦ l ] in
+    let x : unsigned_abs o.dx ≤ 15 = grind (arith, far_x p R o h) in
+    let y : unsigned_abs o.dy ≤ 15 = grind (arith, far_y p R o h) in
     near_from o (and_from _ _ (le-leb _ _ x) (le-leb _ _ y))
-
-pub uncovered : (t : Bool) (v : ℕ) → t ≡ false → None ≡ cond t (Some v) None
-uncovered t v e = sym (cond-false t (Some v) None e)
-
-pub covered : (t : Bool) (v h : ℕ) → t ≡ true → v ≡ h → Some h ≡ cond t (Some v) None
-covered t v h i e = ap Some (sym e) ∙ sym (cond-true t (Some v) None i)
-
-some_at : (t : Bool) (v k : ℕ) → t ≡ true → cond t (Some v) None ≡ Some k → v ≡ k
-some_at t v k i e = let g : Some v ≡ Some k = simp i at e in cc
-
-none_at : (t : Bool) (v k : ℕ) → t ≡ false → cond t (Some v) None ≢ Some k
-none_at t v k i e =
-    let g : None ≡ Some k = simp i at e in
-    let z : ◌≡◌ {A = ℕ} 0 1 = cc in
-    omega arith
 
 -- the laws of a cutter that stands f above the tip over a disc
 pub disc_lawful : (p R : ℕ) (f : Offset → ℕ) → R < 16 * p → f centre ≡ 0 → ((o : Offset) → in_disc p R o ≡ true → f o ≤ 200000) →
@@ -94,7 +70,10 @@ pub disc_lawful : (p R : ℕ) (f : Offset → ℕ) → R < 16 * p → f centre �
 disc_lawful p R f h c b =
     record {
       centred = simp (disc_centre p R, c);
-      bounded = λ o k e. elim (cases_Bool (in_disc p R o)) [ inl i ↦ let g : f o ≡ k = some_at _ _ k i e in omega (arith, b o i) | inr i ↦ absurd (none_at (in_disc p R o) (f o) k i e) ];
-      reaches = λ o k e. elim (cases_Bool (in_disc p R o)) [ inl i ↦ disc_near p R o h i | inr i ↦ absurd (none_at (in_disc p R o) (f o) k i e) ];
+      bounded = λ o k e. let s = cond_some (in_disc p R o) (f o) k e in omega (arith, b o s.0, s.1);
+      reaches = λ o k e. disc_near p R o h (cond_some (in_disc p R o) (f o) k e).0;
       narrow = omega arith;
     }
+
+-- the square at an offset, and whether the disc covers it
+pub ruleset disc_squares = (far_x, far_y, disc_fits, disc_in, disc_out, square_told)

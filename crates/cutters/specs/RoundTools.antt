@@ -9,12 +9,12 @@ use Rattle.cutters.specs.declared.round.RoundTool.TheVariants.{Flat, Cone, Ball}
 
 -- the pitch of its kind
 abbrev pub round_spacing : RoundTool → ℕ
-round_spacing (Flat t) = t.pitch.microns
-round_spacing (Cone t) = t.pitch.microns
-round_spacing (Ball t) = t.pitch.microns
+round_spacing (Flat t) = t.disc.pitch.microns
+round_spacing (Cone t) = t.disc.pitch.microns
+round_spacing (Ball t) = t.disc.pitch.microns
 
 -- the shape of its kind
 abbrev pub round_shape : RoundTool → Profile
-round_shape (Flat t) = flat_shape t.pitch.microns t.radius
-round_shape (Cone t) = cone_shape t.pitch.microns t.radius t.tip t.rise
-round_shape (Ball t) = ball_shape t.pitch.microns t.radius
+round_shape (Flat t) = flat_shape t.disc.pitch.microns t.disc.radius
+round_shape (Cone t) = cone_shape t.disc.pitch.microns t.disc.radius t.tip t.rise
+round_shape (Ball t) = ball_shape t.disc.pitch.microns t.disc.radius

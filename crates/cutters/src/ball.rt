@@ -1,17 +1,12 @@
 // The ball.
-ghost use Rattle.std.specs.Prelude.{◌*◌, ◌<◌, ◌≤◌};
-
-use zmap::Pitch;
+use crate::Disc;
 
 mod cutting;
 mod making;
 mod rounding;
 
-// A cutter whose underside is the lower half of a ball of the radius, in µm.
+// A cutter whose underside is the lower half of a ball over the disc.
 #[derive(Clone, Copy)]
 pub struct Ball {
-    pub pitch: Pitch,
-    pub radius: u32,
-    ghost slim: { radius ≤ 15999 },
-    ghost near: { radius < 16 * pitch.microns },
+    pub disc: Disc,
 }

@@ -1,16 +1,11 @@
 // The flat cutter.
-ghost use Rattle.std.specs.Prelude.{◌*◌, ◌<◌, ◌≤◌};
-
-use zmap::Pitch;
+use crate::Disc;
 
 mod cutting;
 mod making;
 
-// A cutter whose underside is a level disc of the radius, in µm.
+// A cutter whose underside is the level disc.
 #[derive(Clone, Copy)]
 pub struct Flat {
-    pub pitch: Pitch,
-    pub radius: u32,
-    ghost slim: { radius ≤ 15999 },
-    ghost near: { radius < 16 * pitch.microns },
+    pub disc: Disc,
 }

@@ -1,12 +1,14 @@
 // Cutters behind one interface, and the order in which their offsets are scanned.
 #![tactic(auto)]
 
+mod amount;
 mod ball;
 mod cone;
 mod cutter;
 mod disc;
 mod flat;
 mod measured;
+mod place;
 mod ring;
 mod round;
 mod row;
@@ -15,6 +17,7 @@ mod table;
 pub use ball::Ball;
 pub use cone::Cone;
 pub use cutter::Cutter;
+pub use disc::Disc;
 pub use flat::Flat;
 pub use measured::Measured;
 pub use ring::offsets;

@@ -4,7 +4,6 @@ ghost use Rattle.cutters.specs.Cells.{cell};
 
 use crate::row::Row;
 
-mod placing;
 mod reading;
 mod writing;
 

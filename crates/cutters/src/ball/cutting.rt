@@ -3,8 +3,6 @@ ghost use Rattle.std.specs.Prelude.{◌≡◌};
 ghost use Rattle.cutters.specs.Balls.{ball_shape, BallDrawn};
 ghost use Rattle.cutters.specs.BallsLemmas.{ball_lawful};
 
-use crate::ball::rounding::ball_height;
-use crate::disc::square_at;
 use crate::{Ball, Cutter};
 use zmap::{Offset, Pitch};
 
@@ -14,23 +12,22 @@ impl Cutter for Ball {
 
     ghost REACH = { 15 };
 
-    ghost spacing = { λ t. t.pitch.microns };
+    ghost spacing = { λ t. t.disc.pitch.microns };
 
-    ghost shape = { λ t. ball_shape t.pitch.microns t.radius };
+    ghost shape = { λ t. ball_shape t.disc.pitch.microns t.disc.radius };
 
-    ghost lawful = { λ t. ball_lawful t.pitch.microns t.radius t.slim t.near };
+    ghost lawful = { λ t. ball_lawful t.disc.pitch.microns t.disc.radius t.disc.slim t.disc.near };
 
     fn pitch(&self) -> Pitch {
-        self.pitch
+        self.disc.pitch
     }
 
+    #[tactic(auto, using(crate::specs::BallsLemmas::ball_drawing))]
     fn profile(&self, o: Offset) -> Option<u32>
-        ensures value { result ≡ ball_shape self.now.pitch.microns self.now.radius o }
-        ensures drawn { BallDrawn self.now.pitch.microns self.now.radius o result }
+        ensures value { result ≡ ball_shape self.now.disc.pitch.microns self.now.disc.radius o }
+        ensures drawn { BallDrawn self.now.disc.pitch.microns self.now.disc.radius o result }
     {
-        let Some(square) = square_at(self.pitch, self.radius, o) else {
-            return None;
-        };
-        Some(ball_height(self.radius, square))
+        let square = self.disc.square_at(o)?;
+        Some(self.height(square))
     }
 }

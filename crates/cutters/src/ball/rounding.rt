@@ -2,16 +2,22 @@
 ghost use Rattle.std.specs.Prelude.{◌*◌, ◌≤◌};
 ghost use Rattle.cutters.specs.Balls.{BallStands, RootUp};
 
-// The height of a ball of this radius, where the square of the distance is so many µm².
-pub(crate) fn ball_height(radius: u32, square: u32) -> u32
-    requires slim { radius ≤ 15999 }
-    requires near { square ≤ radius * radius }
-    ensures { BallStands radius square result }
-{
-    radius - root_up(radius * radius - square)
+use crate::Ball;
+
+impl Ball {
+    // The height where the square of the distance is so many µm².
+    #[tactic(auto, using(crate::specs::BallsLemmas::root_under, crate::specs::BallsLemmas::ball_root))]
+    pub(crate) fn height(&self, square: u32) -> u32
+        requires { square ≤ self.now.disc.radius * self.now.disc.radius }
+        ensures { BallStands self.now.disc.radius square result }
+    {
+        let radius = self.disc.radius;
+        radius - root_up(radius * radius - square)
+    }
 }
 
 // The root of a number, rounded up.
+#[tactic(auto, using(crate::specs::BallsLemmas::root_whole, crate::specs::BallsLemmas::root_more))]
 fn root_up(n: u32) -> u32
     ensures { RootUp n result }
 {

@@ -3,8 +3,6 @@ ghost use Rattle.std.specs.Prelude.{◌≡◌};
 ghost use Rattle.cutters.specs.Cones.{cone_shape, ConeDrawn};
 ghost use Rattle.cutters.specs.ConesLemmas.{cone_lawful};
 
-use crate::cone::rising::cone_height;
-use crate::disc::square_at;
 use crate::{Cone, Cutter};
 use zmap::{Offset, Pitch};
 
@@ -14,23 +12,22 @@ impl Cutter for Cone {
 
     ghost REACH = { 15 };
 
-    ghost spacing = { λ t. t.pitch.microns };
+    ghost spacing = { λ t. t.disc.pitch.microns };
 
-    ghost shape = { λ t. cone_shape t.pitch.microns t.radius t.tip t.rise };
+    ghost shape = { λ t. cone_shape t.disc.pitch.microns t.disc.radius t.tip t.rise };
 
-    ghost lawful = { λ t. cone_lawful t.pitch.microns t.radius t.tip t.rise t.near };
+    ghost lawful = { λ t. cone_lawful t.disc.pitch.microns t.disc.radius t.tip t.rise t.disc.near };
 
     fn pitch(&self) -> Pitch {
-        self.pitch
+        self.disc.pitch
     }
 
+    #[tactic(auto, using(crate::specs::ConesLemmas::cone_drawing))]
     fn profile(&self, o: Offset) -> Option<u32>
-        ensures value { result ≡ cone_shape self.now.pitch.microns self.now.radius self.now.tip self.now.rise o }
-        ensures drawn { ConeDrawn self.now.pitch.microns self.now.radius self.now.tip self.now.rise o result }
+        ensures value { result ≡ cone_shape self.now.disc.pitch.microns self.now.disc.radius self.now.tip self.now.rise o }
+        ensures drawn { ConeDrawn self.now.disc.pitch.microns self.now.disc.radius self.now.tip self.now.rise o result }
     {
-        let Some(square) = square_at(self.pitch, self.radius, o) else {
-            return None;
-        };
-        Some(cone_height(self.tip, self.rise, square))
+        let square = self.disc.square_at(o)?;
+        Some(self.height(square))
     }
 }

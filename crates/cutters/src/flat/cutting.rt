@@ -3,7 +3,6 @@ ghost use Rattle.std.specs.Prelude.{◌≡◌};
 ghost use Rattle.cutters.specs.Flats.{flat_shape, FlatDrawn};
 ghost use Rattle.cutters.specs.FlatsLemmas.{flat_lawful};
 
-use crate::disc::square_at;
 use crate::{Cutter, Flat};
 use zmap::{Offset, Pitch};
 
@@ -13,23 +12,21 @@ impl Cutter for Flat {
 
     ghost REACH = { 15 };
 
-    ghost spacing = { λ t. t.pitch.microns };
+    ghost spacing = { λ t. t.disc.pitch.microns };
 
-    ghost shape = { λ t. flat_shape t.pitch.microns t.radius };
+    ghost shape = { λ t. flat_shape t.disc.pitch.microns t.disc.radius };
 
-    ghost lawful = { λ t. flat_lawful t.pitch.microns t.radius t.near };
+    ghost lawful = { λ t. flat_lawful t.disc.pitch.microns t.disc.radius t.disc.near };
 
     fn pitch(&self) -> Pitch {
-        self.pitch
+        self.disc.pitch
     }
 
+    #[tactic(auto, using(crate::specs::DiscsLemmas::disc_past, crate::specs::DiscsLemmas::disc_le))]
     fn profile(&self, o: Offset) -> Option<u32>
-        ensures value { result ≡ flat_shape self.now.pitch.microns self.now.radius o }
-        ensures drawn { FlatDrawn self.now.pitch.microns self.now.radius o result }
+        ensures value { result ≡ flat_shape self.now.disc.pitch.microns self.now.disc.radius o }
+        ensures drawn { FlatDrawn self.now.disc.pitch.microns self.now.disc.radius o result }
     {
-        let Some(_) = square_at(self.pitch, self.radius, o) else {
-            return None;
-        };
-        Some(0)
+        self.disc.square_at(o).map(|_| 0)
     }
 }

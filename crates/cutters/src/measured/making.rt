@@ -5,7 +5,7 @@ ghost use Rattle.cutters.specs.Tables.{Blank, Written};
 
 use crate::Measured;
 use crate::table::Table;
-use zmap::{Fault, Pitch};
+use zmap::{Fault, Offset, Pitch};
 
 impl Measured {
     // A measured cutter of the pitch, with 0 everywhere.
@@ -24,6 +24,6 @@ impl Measured {
         ensures table { MatchResult result (λ _. Written self.old.table (record { dx = dx; dy = dy }) height self.new.table) (λ e. self.new.table ≡ self.old.table) }
         ensures rest { self.new.pitch ≡ self.old.pitch }
     {
-        self.table.write(dx, dy, height)
+        self.table.write(Offset { dx, dy }, height)
     }
 }

@@ -19,16 +19,16 @@ impl Cutter for RoundTool {
     ghost shape = { round_shape };
 
     ghost lawful = { elim [
-      | Flat t ↦ flat_lawful t.pitch.microns t.radius t.near
-      | Cone t ↦ cone_lawful t.pitch.microns t.radius t.tip t.rise t.near
-      | Ball t ↦ ball_lawful t.pitch.microns t.radius t.slim t.near
+      | Flat t ↦ flat_lawful t.disc.pitch.microns t.disc.radius t.disc.near
+      | Cone t ↦ cone_lawful t.disc.pitch.microns t.disc.radius t.tip t.rise t.disc.near
+      | Ball t ↦ ball_lawful t.disc.pitch.microns t.disc.radius t.disc.slim t.disc.near
     ] };
 
     fn pitch(&self) -> Pitch {
         match self {
-            RoundTool::Flat(t) => t.pitch,
-            RoundTool::Cone(t) => t.pitch,
-            RoundTool::Ball(t) => t.pitch,
+            RoundTool::Flat(t) => t.pitch(),
+            RoundTool::Cone(t) => t.pitch(),
+            RoundTool::Ball(t) => t.pitch(),
         }
     }
 

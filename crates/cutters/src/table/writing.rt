@@ -1,29 +1,41 @@
 // New tables, and entries written.
 ghost use Rattle.std.specs.Prelude.{◌≡◌, Some, None, MatchResult};
-ghost use Rattle.cutters.specs.Entries.{entry_fault};
+ghost use Rattle.cutters.specs.Entries.{entry_fault, is_allowed};
 ghost use Rattle.cutters.specs.Tables.{Blank, Written};
 
+use crate::place::Place;
 use crate::row::Row;
 use crate::table::Table;
-use crate::table::placing::place_of;
-use zmap::Fault;
+use zmap::{Fault, Offset};
 
 impl Table {
     // A table with 0 everywhere.
     pub(crate) fn new() -> Table
         ensures { Blank result }
     {
-        let row = Row { heights: [0; 15] };
-        Table { rows: [row; 15] }
+        Table {
+            rows: [Row { heights: [0; 15] }; 15],
+        }
     }
 
-    // The height as the entry at (dx, dy); or the first refusal, and the table as it was.
-    pub(crate) fn write(&mut self, dx: i32, dy: i32, height: i32) -> Result<(), Fault>
-        ensures accepts { MatchResult result (λ _. entry_fault dx dy height ≡ None) (λ e. entry_fault dx dy height ≡ Some e) }
-        ensures table { MatchResult result (λ _. Written self.old (record { dx = dx; dy = dy }) height self.new) (λ e. self.new ≡ self.old) }
+    // The height as the entry at the offset; or the first refusal, and the table as it was.
+    pub(crate) fn write(&mut self, o: Offset, height: i32) -> Result<(), Fault>
+        ensures accepts { MatchResult result (λ _. entry_fault o.dx o.dy height ≡ None) (λ e. entry_fault o.dx o.dy height ≡ Some e) }
+        ensures table { MatchResult result (λ _. Written self.old o height self.new) (λ e. self.new ≡ self.old) }
     {
-        let at = place_of(dx, dy, height)?;
+        let at = Place::of(o).ok_or(Fault::EntryOffset)?;
+        if !may_stand(o, height) {
+            return Err(Fault::EntryHeight);
+        }
         self.rows[at.row].heights[at.column] = height;
         Ok(())
     }
+}
+
+// Whether the height may be the entry at the offset, where the tip takes only 0.
+fn may_stand(o: Offset, height: i32) -> bool
+    ensures { result ≡ is_allowed o.dx o.dy height }
+{
+    let at_tip = o.dx == 0 && o.dy == 0;
+    (-1..=200000).contains(&height) && (!at_tip || height == 0)
 }

@@ -1,37 +1,34 @@
 -- The entry is written, and the others stay.
-use Rattle.std.proofs.Common.{◌<◌, length, get_or, refl, ◌∙◌, arith, w32}
+use Rattle.std.proofs.Common.{◌<◌, length, get_or, refl, sym, ◌∙◌, arith, w32}
 use Rattle.std.proofs.lemmas.List.{length-set}
 use Rattle.std.proofs.lemmas.Int.{to_z-of_z}
 use Rattle.cutters.specs.CellsLemmas.{entries_set, row_put, put_keeps}
-use Rattle.cutters.specs.TablesLemmas.{written}
+use Rattle.cutters.specs.TablesLemmas.{allowed_entry, allowed_centre, near_close, written}
 use Rattle.cutters.proofs.table.Table.write.Goals as goal
 
 pub invariant_of-self : goal.invariant_of-self
 invariant_of-self c d =
     let t = c.args.self.now in
-    let i = c.in_ok-at.at.row in
-    let at = c.in_ok-at.ensures.at in
-    let holds = c.in_ok-at.ensures.holds in
-    let r = get_or t.rows i d in
-    let lt : i < length t.rows = omega (arith, t.sized, at.2) in (
-      (length-set r.heights _ _ ∙ r.sized, (entries_set r.heights _ _ r.ranged holds.0, tt)),
+    let at = c.in_ok-at.at in
+    let found = rw c.in_ok-at.ensures.ok_part at c.of.ensures in
+    let allowed = sym c.may_stand.ensures ∙ c.if-not-may_stand.false in
+    let r = get_or t.rows at.row d in
+    let lt : at.row < length t.rows = omega (arith, t.sized, at.below) in (
+      (length-set r.heights _ _ ∙ r.sized, (entries_set r.heights _ _ r.ranged (allowed_entry c.args.o _ allowed), tt)),
       (
         length-set t.rows _ _ ∙ t.sized,
-        (put_keeps t.rows i _ _ _ 7 7 _ (row_put t.rows i _ _ d _ lt at.3 refl) t.centred holds.1, tt),
+        (
+          put_keeps t.rows at.row _ _ _ 7 7 _ (row_put t.rows at.row _ _ d _ lt at.left refl) t.centred
+              (allowed_centre c.args.o _ _ _ allowed (near_close _ found.0) found.1 found.2),
+          tt,
+        ),
       ),
     )
 
-pub returns : goal.returns
-returns c =
+pub returns-clause-table : goal.returns-clause-table
+returns-clause-table c =
     let t = c.args.self.now in
-    let i = c.in_ok-at.at.row in
-    let fx = c.ranges.dx in
-    let fy = c.ranges.dy in
-    let fz = c.ranges.height in
-    let e = c.in_ok-at.ensures in
-    let at = simp to_z-of_z at e.at in
-    let lt : i < length t.rows = omega (arith, t.sized, at.2) in
-    record {
-      accepts = simp to_z-of_z at e.accepts;
-      table = written t _ _ _ _ i _ (to_z-of_z w32 c.args.height fz) at.0 at.1 (simp to_z-of_z at e.near) (row_put t.rows i _ _ c.index-self-at.result _ lt at.3 refl);
-    }
+    let at = c.in_ok-at.at in
+    let found = rw c.in_ok-at.ensures.ok_part at c.of.ensures in
+    let lt : at.row < length t.rows = omega (arith, t.sized, at.below) in
+    written t _ _ _ _ _ _ (to_z-of_z w32 _ c.ranges.height) found.1 found.2 (near_close _ found.0) (row_put t.rows _ _ _ c.index-self-at.result _ lt at.left refl)

@@ -1,0 +1,21 @@
+// A disc out of plain numbers.
+ghost use Rattle.std.specs.Prelude.{◌≡◌, pos, IfOk, Some, None, MatchResult};
+ghost use Rattle.cutters.specs.Making.{round_fault};
+
+use crate::Disc;
+use crate::amount::up_to;
+use zmap::{Fault, Pitch};
+
+impl Disc {
+    // A disc of such a pitch and radius, or the first refusal of the two.
+    pub(crate) fn new(pitch: i32, radius: i32) -> Result<Disc, Fault>
+        ensures accepts { MatchResult result (λ d. round_fault pitch radius ≡ None) (λ e. round_fault pitch radius ≡ Some e) }
+        ensures holds { IfOk result (λ d. (pos d.pitch.microns ≡ pitch) × (pos d.radius ≡ radius)) }
+    {
+        let pitch = Pitch::new(pitch)?;
+        let radius = up_to(15999, radius)
+            .filter(|r| *r < 16 * pitch.microns)
+            .ok_or(Fault::Radius)?;
+        Ok(Disc { pitch, radius })
+    }
+}

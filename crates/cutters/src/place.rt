@@ -1,0 +1,13 @@
+// Where an entry of the table stands.
+ghost use Rattle.std.specs.Prelude.{◌<◌};
+
+mod finding;
+
+// The row and the column of an entry.
+#[derive(Clone, Copy)]
+pub(crate) struct Place {
+    pub(crate) row: usize,
+    pub(crate) column: usize,
+    ghost below: { row < 15 },
+    ghost left: { column < 15 },
+}
