@@ -13,7 +13,7 @@ use Rattle.cutters.specs.Rings.{Ring}
 use Rattle.milling.specs.Cuts.{Contacts, First, Only, Surface, Under}
 use Rattle.milling.specs.declared.poses.Pose.{Pose}
 use Rattle.milling.specs.Scans.{InvadedAt, MetAt, Stood}
-use Rattle.milling.proofs.Rounds.{Each, each_all, each_before, each_more, each_none, each_weaker, here_weaker}
+use Rattle.milling.proofs.Rounds.{Each, each_all, each_before, each_more, each_weaker, here_weaker}
 
 -- what stands at an offset is under the cutter
 pub under_stood : {g : Grid} {P : Profile} (p : Pose) {o : Offset} {s : Node} {u : ℤ} → Stood g P p o s u → Under g P p s u
