@@ -1,5 +1,5 @@
 -- The cut so far: what it has made of the block at the offsets before i. Assumes nothing.
-use Rattle.std.proofs.Common.{◌≡◌, ℕ, ◌+◌, ◌*◌, ◌<◌, ◌≤◌, Bool, true, false, cond, ltb, ◌⊎◌, List, length, get_or, set, ℤ, pos, ◌≤ℤ◌, sym, refl, ap, ◌∙◌, subst, inl, inr, ⊎_elim, arith}
+use Rattle.std.proofs.Common.{◌≡◌, ℕ, ◌+◌, ◌*◌, ◌<◌, ◌≤◌, Bool, cond, ltb, ◌⊎◌, List, length, get_or, set, ℤ, pos, ◌≤ℤ◌, sym, refl, ap, ◌∙◌, subst, inl, inr, ⊎_elim, arith}
 use lib.Signed.{≤ℤ_refl}
 use Rattle.std.proofs.lemmas.List.{length-set, get_or-set_same, get_or_default}
 use Rattle.std.proofs.lemmas.Int.{ints, clamps}
@@ -46,8 +46,7 @@ min_either : (x y : ℤ) → (int_min x y ≡ x) ⊎ (int_min x y ≡ y)
 min_either x y = grind (arith, ints)
 
 at_most_one : (t : Bool) → cond t 1 0 ≤ 1
-at_most_one true = omega arith
-at_most_one false = omega arith
+at_most_one t = grind arith
 
 module _ {g : Grid} {P : Profile} (p : Pose) (os : List Offset) (b : List ℤ) where
   pub start : Sofar g P p os b b 0 0 0
@@ -88,10 +87,10 @@ module _ {g : Grid} {P : Profile} (p : Pose) (os : List Offset) (b : List ℤ) w
       (so.reached s stood.on)
 
   -- an offset at which the sample s is covered, and lowered where it stands above the underside u
-  one_more_stood : (b' : List ℤ) (i : ℕ) (d : Offset) (n l : ℕ) (s : Node) (u : ℤ) (fell : ℕ) → Ring os → length b ≡ size g → i < length os → Sofar g P p os b b' i n l →
+  pub one_more : (b' : List ℤ) (i : ℕ) (d : Offset) (n l : ℕ) (s : Node) (u : ℤ) (fell : ℕ) → Ring os → length b ≡ size g → i < length os → Sofar g P p os b b' i n l →
       Stood g P p (get_or os i d) s u → fell ≡ fall (relief g b' s) u → fell < 4294967296 →
       Sofar g P p os b (set b' (place g s) (int_min (relief g b' s) u)) (i + 1) (n + cond (ltb 0 fell) 1 0) (l + fell)
-  one_more_stood b' i d n l s u fell ring sized lt so stood is small =
+  one_more b' i d n l s u fell ring sized lt so stood is small =
       let x = relief g b s in
       let x' = relief g b' s in
       let v = int_min x' u in
@@ -132,13 +131,6 @@ module _ {g : Grid} {P : Profile} (p : Pose) (os : List Offset) (b : List ℤ) w
         few = omega (arith, so.few, at_most_one (ltb 0 fell));
         little = omega (arith, so.little);
       }
-
-  -- the same, by equations
-  pub one_more : (b' b'' : List ℤ) (i : ℕ) (d : Offset) (n l n'' l'' : ℕ) (s : Node) (u : ℤ) (fell : ℕ) → Ring os → length b ≡ size g → i < length os → Sofar g P p os b b' i n l →
-      Stood g P p (get_or os i d) s u → fell ≡ fall (relief g b' s) u → fell < 4294967296 →
-      b'' ≡ set b' (place g s) (int_min (relief g b' s) u) → n'' ≡ n + cond (ltb 0 fell) 1 0 → l'' ≡ l + fell → Sofar g P p os b b'' (i + 1) n'' l''
-  one_more b' b'' i d n l n'' l'' s u fell ring sized lt so stood is small block count loss =
-      rw (block, count, loss) (one_more_stood b' i d n l s u fell ring sized lt so stood is small)
 
   -- every offset is seen
   pub done : (b' : List ℤ) (j i n l : ℕ) → Ring os → Lawful j P → length os ≤ i → Sofar g P p os b b' i n l → Carved g P (Only p) (relief g b) (relief g b')

@@ -3,5 +3,4 @@ pub mod Seen
 pub mod Sums
 pub mod Places
 pub mod Cutting
-pub mod Forming
-pub mod PoseLaws
+pub mod Centre

@@ -1,8 +1,7 @@
 -- Loops over the table of offsets: what holds at each offset so far, and so, in the end, of all that the cutter covers. Assumes nothing.
-use Rattle.std.proofs.Common.{◌≡◌, ℕ, ◌+◌, ◌<◌, ◌≤◌, List, length, get_or, ℤ, pos, ◌+ℤ◌, Some, sym, subst, ⊎_elim, arith}
+use Rattle.std.proofs.Common.{◌≡◌, ℕ, ◌+◌, ◌<◌, ◌≤◌, List, length, get_or, ℤ, pos, ◌+ℤ◌, Some, sym, subst, arith, below_more}
 use Rattle.std.proofs.lemmas.List.{get_or_default}
 use Rattle.std.proofs.lemmas.Int.{ints}
-use Rattle.std.proofs.lemmas.Bool.{cases_order}
 use Rattle.zmap.specs.Maps.{At}
 use Rattle.zmap.proofs.Places.{same_node}
 use Rattle.zmap.specs.declared.grid.Grid.{Grid}
@@ -21,29 +20,21 @@ same_offset : {a b c d : ℤ} → a ≡ c → b ≡ d → ◌≡◌ {A = Offset}
 same_offset e f = cc
 
 pub sample_unique : (n : Node) (o : Offset) (s t : Node) → At n o s → At n o t → s ≡ t
-sample_unique n o s t a b =
-    let c : s.column ≡ t.column = omega (arith, ints, a.0, b.0) in
-    let r : s.row ≡ t.row = omega (arith, ints, a.1, b.1) in
-    same_node c r
+sample_unique n o s t a b = same_node (omega (arith, ints, a.0, b.0)) (omega (arith, ints, a.1, b.1))
 
 pub offset_unique : (n : Node) (o q : Offset) (s : Node) → At n o s → At n q s → o ≡ q
-offset_unique n o q s a b =
-    let x : o.dx ≡ q.dx = omega (arith, ints, a.0, b.0) in
-    let y : o.dy ≡ q.dy = omega (arith, ints, a.1, b.1) in
-    same_offset x y
+offset_unique n o q s a b = same_offset (omega (arith, ints, a.0, b.0)) (omega (arith, ints, a.1, b.1))
 
 rise_unique : (P : Profile) (o : Offset) (h k : ℕ) → P o ≡ Some h → P o ≡ Some k → h ≡ k
 rise_unique P o h k e f = cc
 
 -- a smaller reach is within a wider one
 near_wider : (j k : ℕ) (o : Offset) → j ≤ k → Near j o → Near k o
-near_wider j k o le near =
-    record {
-      west = omega (arith, ints, near.west);
-      east = omega (arith, ints, near.east);
-      north = omega (arith, ints, near.north);
-      south = omega (arith, ints, near.south);
-    }
+near_wider j k o le near = search (arith, ints)
+
+-- an offset that comes before another stands earlier in the table
+earlier : (os : List Offset) (i k : ℕ) (d o : Offset) → Ring os → k < 961 → get_or os k d ≡ o → Before o (get_or os i d) → k < i
+earlier os i k d o ring lt is before = grind (arith, before_irrefl, before_trans, ring.order)
 
 -- ---- one offset
 
@@ -75,38 +66,27 @@ module _ {g : Grid} {P : Profile} {p : Pose} (os : List Offset) (Q : Node → �
 
   pub each_more : (i : ℕ) (d : Offset) → i < length os → Each g P p os i Q → Here g P p (get_or os i d) Q → Each g P p os (i + 1) Q
   each_more i d lt so here =
-      record {
-        each = λ k e le.
-            ⊎_elim
-            (λ (same : k ≡ i). subst (λ m. Here g P p (get_or os m e) Q) (sym same) (subst (λ x. Here g P p x Q) (get_or_default os i d e lt) here))
-            (⊎_elim (λ (l : k < i). so.each k e l) (λ (l : i < k). absurd (omega arith)))
-            (cases_order k i);
-      }
+      let here' = λ (e : Offset). subst (λ x. Here g P p x Q) (get_or_default os i d e lt) here in
+      record { each = λ k e le. below_more (λ k. (e : Offset) → Here g P p (get_or os k e) Q) i (λ k l e. so.each k e l) here' k le e }
 
   pub each_weaker : (i : ℕ) (R : Node → ℤ → Type 0) → ((s : Node) (u : ℤ) → Q s u → R s u) → Each g P p os i Q → Each g P p os i R
   each_weaker i R f so = record { each = λ k d lt. here_weaker f (so.each k d lt) }
 
+  each_at : (k i : ℕ) (d : Offset) → k < i → Each g P p os i Q → (s : Node) (u : ℤ) (w : Under g P p s u) → get_or os k d ≡ w.covers.offset → Q s u
+  each_at k i d lt so s u w is =
+      let here = subst (λ x. Here g P p x Q) is (so.each k d lt) in
+      subst (Q s) (sym w.level) (here.here s w.rise w.on w.covers.at w.covers.rise)
+
   -- where the table has every offset, every covered sample has been seen
   pub each_all : (j i : ℕ) → Ring os → Lawful j P → length os ≤ i → Each g P p os i Q → (s : Node) (u : ℤ) → Under g P p s u → Q s u
-  each_all j i ring lawful le so s u under =
-      let o = under.covers.offset in
-      let at = ring.all o (near_wider j 15 o lawful.narrow (lawful.reaches o under.rise under.covers.rise)) in
-      let lt : at.0 < i = omega (arith, ring.size, at.1) in
-      let here = subst (λ x. Here g P p x Q) (at.2 o) (so.each at.0 o lt) in
-      subst (Q s) (sym under.level) (here.here s under.rise under.on under.covers.at under.covers.rise)
+  each_all j i ring lawful le so s u w =
+      let o = w.covers.offset in
+      let at = ring.all o (near_wider j 15 o lawful.narrow (lawful.reaches o w.rise w.covers.rise)) in
+      each_at at.0 i o (omega (arith, ring.size, at.1)) so s u w (at.2 o)
 
   -- and before that, every one whose offset comes before the offset at i
-  pub each_before : (j i : ℕ) (d : Offset) → Ring os → Lawful j P → i < 961 → Each g P p os i Q → (s : Node) (u : ℤ) (w : Under g P p s u) → Before w.covers.offset (get_or os i d) → Q s u
-  each_before j i d ring lawful lt so s u under before =
-      let o = under.covers.offset in
-      let at = ring.all o (near_wider j 15 o lawful.narrow (lawful.reaches o under.rise under.covers.rise)) in
-      let k = at.0 in
-      let is : get_or os k d ≡ o = at.2 d in
-      let earlier : k < i =
-      ⊎_elim
-      (λ (e : k ≡ i). absurd (before_irrefl o (subst (Before o) (subst (λ m. get_or os m d ≡ o) e is) before)))
-      (⊎_elim (λ (l : k < i). l)
-      (λ (l : i < k). absurd (before_irrefl o (before_trans o (get_or os i d) o before (subst (Before (get_or os i d)) is (ring.order i k d l at.1))))))
-      (cases_order k i) in
-      let here = subst (λ x. Here g P p x Q) is (so.each k d earlier) in
-      subst (Q s) (sym under.level) (here.here s under.rise under.on under.covers.at under.covers.rise)
+  pub each_before : (j i : ℕ) (d : Offset) → Ring os → Lawful j P → Each g P p os i Q → (s : Node) (u : ℤ) (w : Under g P p s u) → Before w.covers.offset (get_or os i d) → Q s u
+  each_before j i d ring lawful so s u w before =
+      let o = w.covers.offset in
+      let at = ring.all o (near_wider j 15 o lawful.narrow (lawful.reaches o w.rise w.covers.rise)) in
+      each_at at.0 i d (earlier os i at.0 d o ring at.1 (at.2 d) before) so s u w (at.2 d)

@@ -13,7 +13,7 @@ use Rattle.cutters.specs.Rings.{Ring}
 use Rattle.milling.specs.Cuts.{Contacts, First, Only, Surface, Under}
 use Rattle.milling.specs.declared.poses.Pose.{Pose}
 use Rattle.milling.specs.Scans.{InvadedAt, MetAt, Stood}
-use Rattle.milling.proofs.Rounds.{Each, each_all, each_before, each_more, each_none, each_weaker, here_weaker}
+use Rattle.milling.proofs.Rounds.{Each, each_all, each_before, each_more, each_weaker, here_weaker}
 
 -- what stands at an offset is under the cutter
 pub under_stood : {g : Grid} {P : Profile} (p : Pose) {o : Offset} {s : Node} {u : ℤ} → Stood g P p o s u → Under g P p s u
@@ -21,13 +21,12 @@ under_stood p {o} stood =
     record { on = stood.on; rise = stood.rise; covers = record { offset = o; at = stood.at; rise = stood.covers }; level = stood.level }
 
 pub first_found : {g : Grid} {G : Surface} {P : Profile} (p : Pose) (os : List Offset) (j i : ℕ) (d : Offset) (s : Node) (k : Class) →
-    Ring os → Lawful j P → i < length os → Each g P p os i (λ t u. (G t).height ≤ℤ u) → InvadedAt g G P p (get_or os i d) s k → First g G P p s
+    Ring os → Lawful j P → Each g P p os i (λ t u. (G t).height ≤ℤ u) → InvadedAt g G P p (get_or os i d) s k → First g G P p s
 unfolding under_stood
-first_found {g} {G} {P} p os j i d s k ring lawful lt so at =
-    let near : i < 961 = omega (arith, ring.size) in
+first_found {g} {G} {P} p os j i d s k ring lawful so at =
     record {
       invades = record { level = at.level; under = under_stood p at.stood; below = at.below };
-      first = λ t u w before. each_before os (λ t u. (G t).height ≤ℤ u) j i d ring lawful near so t u w before;
+      first = λ t u w before. each_before os (λ t u. (G t).height ≤ℤ u) j i d ring lawful so t u w before;
     }
 
 -- ---- the contact so far
@@ -38,9 +37,6 @@ pub record Met (g : Grid) (G : Surface) (P : Profile) (p : Pose) (os : List Offs
   pub reached : (k ≡ Clear) ⊎ ((s : Node) × (u : ℤ) × Under g P p s u × (u ≡ (G s).height) × (k ≡ contact_of (G s).class))
 
 module _ {g : Grid} {G : Surface} {P : Profile} (p : Pose) (os : List Offset) where
-  pub met_none : Met g G P p os 0 Clear
-  met_none = record { bounds = each_none os _; reached = inl refl }
-
   pub met_more : (i : ℕ) (d : Offset) (k m r : Contact) → i < length os → Met g G P p os i k → MetAt g G P p (get_or os i d) m → Higher k m r → Met g G P p os (i + 1) r
   met_more i d k m r lt so at high =
       record {

@@ -48,6 +48,7 @@ fn check(grid: &Grid, pitch: Pitch, long: usize, at: Spot) -> Result<Pose, Fault
     if pitch != grid.pitch {
         return Err(Fault::CutterPitch);
     }
+    // a block is a lent slice by a rule of the project, so each call tests its length
     if long != grid.samples() {
         return Err(Fault::BlockLength);
     }

@@ -1,4 +1,4 @@
-// A pose against a guard, with a cutter: what its scans of the offsets go by.
+// What a scan of the offsets goes by.
 ghost use Rattle.std.specs.Prelude.{◌≡◌};
 ghost use Rattle.zmap.specs.Limits.{Height};
 ghost use Rattle.zmap.specs.Maps.{On};
@@ -11,7 +11,7 @@ mod covering;
 mod invading;
 mod meeting;
 
-// A cutter at a pose over the guard's map, whose grid it holds.
+// A cutter at a pose over a guard, and the grid of the guard's map.
 #[derive(Drop)]
 pub(crate) struct Scan<'a, F: Field, C> {
     pub guard: &'a F,

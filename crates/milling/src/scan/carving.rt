@@ -35,7 +35,7 @@ impl<F: Field, C: Cutter> Scan<'_, F, C> {
     }
 }
 
-// Lowers a covered sample of the block, a slice by a rule of the project, where it stands higher, and tells how far it fell.
+// Lowers a covered sample, where it stands higher, and tells how far it fell.
 fn lower(grid: &Grid, cover: Cover, block: &mut [i32]) -> u32
     requires on { On grid.now cover.sample }
     requires whole { length block.old ≡ size grid.now }

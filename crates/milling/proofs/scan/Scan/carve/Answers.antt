@@ -1,7 +1,6 @@
 -- Each turn sees one offset more.
-use Rattle.std.proofs.Common.{refl, ◌<◌, ap, ◌∙◌, rules}
-use Rattle.milling.specs.declared.removed.Removed.{Removed}
-use Rattle.milling.proofs.Cutting.{done, one_more, one_more_bare, start}
+use Rattle.std.proofs.Common.{refl, ◌<◌, rules}
+use Rattle.milling.proofs.Cutting.{done, one_more_bare, one_more, start}
 use Rattle.milling.proofs.scan.Scan.carve.Goals as goal
 use Rattle.milling.proofs.scan.Scan.carve.Goals.{in-Some, in_default}
 
@@ -16,13 +15,9 @@ loop-o-preserved g c =
     let i = c.loop-o.o-index in
     elim c.match-covered.branch [
       | in-Some w ↦
-          let small : w.lower.result < 4294967296 = search rules in (
-            one_more p os b c.loop-o.block _ i _ _ _ _ _ _ _ _ c.offsets-o-items.ensures c.requires c.loop-o-test.true c.loop-o.invariant.0
-                w.in-Some.ensures w.lower.ensures.fell small (w.block-is ∙ w.lower.ensures.block)
-                (ap (λ (t : Removed). t.samples) w.removed-is ∙ w.count.ensures.samples)
-                (ap (λ (t : Removed). t.loss) w.removed-is ∙ w.count.ensures.loss),
-            ap (λ (t : Removed). t.contact) w.removed-is ∙ w.count.ensures.contact ∙ c.loop-o.invariant.1,
-          )
+          let small : w.lower.result < 4294967296 = search rules in
+          rw (w.block-is, w.removed-is, w.lower.ensures.block, w.count.ensures.samples, w.count.ensures.loss, w.count.ensures.contact)
+          (one_more p os b c.loop-o.block i _ _ _ _ _ _ c.offsets-o-items.ensures c.requires c.loop-o-test.true c.loop-o.invariant.0 w.in-Some.ensures w.lower.ensures.fell small, c.loop-o.invariant.1)
       | in_default w ↦
           rw (w.block-is, w.removed-is) (one_more_bare p os b c.loop-o.block i _ _ _ c.loop-o-test.true c.loop-o.invariant.0 w.in_default.ensures, c.loop-o.invariant.1)
     ]

@@ -1,10 +1,7 @@
 -- Each turn sees one offset more.
 use Rattle.zmap.proofs.ContactOrder.{greater_contact}
-use Rattle.milling.proofs.Seen.{met_all, met_more, met_none}
+use Rattle.milling.proofs.Seen.{met_all, met_more}
 use Rattle.milling.proofs.scan.Scan.contact.Goals as goal
-
-pub loop-o-init : goal.loop-o-init
-loop-o-init g c = met_none _ _
 
 pub loop-o-preserved : goal.loop-o-preserved
 loop-o-preserved g c = met_more _ _ _ _ _ _ _ c.loop-o-test.true c.loop-o.invariant c.met_at.ensures (greater_contact _ _ _ c.greater-contact.ensures)

@@ -1,18 +1,15 @@
 -- Each turn sees one offset more; the first invaded sample ends the scan.
 use Rattle.std.proofs.Common.{◌≤ℤ◌}
 use Rattle.milling.specs.Cuts.{Clears}
-use Rattle.milling.proofs.Rounds.{each_more, each_all}
+use Rattle.milling.proofs.Rounds.{each_all}
 use Rattle.milling.proofs.Seen.{first_found}
 use Rattle.milling.proofs.scan.Scan.first_invaded.Goals as goal
-
-pub scan-preserved : goal.scan-preserved
-scan-preserved g c = (each_more _ _ _ _ c.scan-test.true c.scan.invariant.0 c.in_default.ensures, c.scan.invariant.1)
 
 pub returns-in-Some : goal.returns-in-Some
 returns-in-Some g c =
     let law = g.met.C.Cutter.lawful c.args.self.now.cutter.now in
     let at = c.in-Some.ensures in
-    (first_found c.args.self.now.pose _ _ _ _ _ _ c.offsets-o-items.ensures law c.scan-test.true c.scan.invariant.0 at, at.class)
+    (first_found c.args.self.now.pose _ _ _ _ _ _ c.offsets-o-items.ensures law c.scan.invariant.0 at, at.class)
 
 pub returns-after-scan : goal.returns-after-scan
 returns-after-scan g c =
