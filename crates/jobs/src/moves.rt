@@ -24,7 +24,7 @@ impl Kind for Moves {
     ghost item = { λ _. move_of };
 
     fn read(&self, input: &mut Reader<'_>) -> Result<Move, Fault> {
-        let words = input.words::<7>()?;
+        let words = input.words()?;
         to_move(words)
     }
 }

@@ -1,7 +1,7 @@
 -- Each turn reads one record more, for which there is room.
 use Rattle.std.proofs.Common.{◌∙◌, ◌+◌, ◌≤◌, arith}
 use Rattle.jobs.proofs.Turns.{records_more}
-use Rattle.jobs.proofs.records.run.Goals as goal
+use Rattle.jobs.proofs.reader.Reader.run.Goals as goal
 
 pub push_reserved-requires : goal.push_reserved-requires
 push_reserved-requires g c =
