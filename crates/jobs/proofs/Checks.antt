@@ -1,5 +1,5 @@
 -- What it says that a check passed. Assumes nothing.
-use Rattle.std.proofs.Common.{◌≡◌, ℕ, ◌≤◌, Bool, true, false, cond, ◌&&◌, leb, ℤ, pos, negsuc, nat_abs, Some, None, Ok, Err, Option, Result, refl, ap, subst, arith, eqb-true, le-leb, leb-true}
+use Rattle.std.proofs.Common.{◌≡◌, ℕ, ◌≤◌, Bool, true, false, cond, ◌&&◌, leb, ℤ, pos, negsuc, nat_abs, Some, None, Ok, Err, Option, Result, refl, ap, subst, eqb-true, le-leb, leb-true}
 use Rattle.std.proofs.lemmas.Bool.{and_parts}
 use Rattle.zmap.specs.Limits.{within}
 use Rattle.zmap.specs.declared.fault.Fault.{Fault}

@@ -1,14 +1,14 @@
 -- The reader takes exactly the bytes that encode an allowed job. Assumes nothing.
-use Rattle.std.proofs.Common.{◌≡◌, ℕ, cond, eqb, leb, List, [], ◌∷◌, ◌++◌, length, ℤ, pos, Ok, Err, Result, MatchResult, sym, refl, ap, ◌∙◌, subst, arith, eqb-true, le-leb, leb-true}
+use Rattle.std.proofs.Common.{◌≡◌, ℕ, eqb, leb, List, [], ◌∷◌, ◌++◌, length, ℤ, pos, Ok, Err, Result, MatchResult, sym, refl, ap, subst, arith, eqb-true, le-leb, leb-true}
 use Rattle.std.proofs.lemmas.List.{append-nil, nil_from_length}
 use Rattle.setups.specs.declared.clamp.Clamp.{Clamp}
 use Rattle.jobs.specs.declared.bad.Bad.{Bad}
 use Rattle.jobs.specs.declared.job.Job.{Job}
 use Rattle.jobs.specs.declared.job.Move.{Move}
-use Rattle.jobs.specs.declared.section.Section.TheVariants.{Whole, Facets, Allowance}
+use Rattle.jobs.specs.declared.section.Section.TheVariants.{Facets, Allowance}
 use Rattle.jobs.specs.Parsers.{Reads}
 use Rattle.jobs.specs.Items.{Extent, Turned}
-use Rattle.jobs.specs.Jobs.{Reading, told, sections, over, ended, parse}
+use Rattle.jobs.specs.Jobs.{Reading, told, sections, ended, parse}
 use Rattle.jobs.specs.Encodings.{MoveWords, Section, Words, Allowed, Encodes, Decodes}
 use Rattle.jobs.proofs.Exactness.{Exact, After, exact_then, exact_end, exact_same}
 use Rattle.jobs.proofs.Checks.{cond_takes}

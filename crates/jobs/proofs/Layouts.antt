@@ -1,12 +1,12 @@
 -- The words of each kind of record, read off from what they make. Assumes nothing.
-use Rattle.std.proofs.Common.{◌≡◌, ℕ, zero, suc, ◌*◌, ◌≤◌, Bool, true, false, cond, leb, List, [], ◌∷◌, length, ℤ, pos, nat_abs, Some, None, Ok, Err, Option, sym, refl, ap, ◌∙◌, subst, arith, le-leb, leb-true}
+use Rattle.std.proofs.Common.{◌≡◌, ℕ, zero, suc, ◌*◌, ◌≤◌, Bool, true, false, cond, leb, List, [], ◌∷◌, length, ℤ, pos, nat_abs, Some, None, Ok, Option, refl, ap, ◌∙◌, subst, le-leb, leb-true}
 use Rattle.zmap.specs.Faults.{grid_fault}
 use Rattle.zmap.specs.declared.fault.Fault.TheVariants as fault
 use Rattle.setups.specs.declared.clamp.Clamp.{Clamp}
 use Rattle.jobs.specs.declared.job.Move.{Move}
 use Rattle.jobs.specs.declared.job.Move.TheVariants.{Pose}
 use Rattle.setups.specs.Clamps.{clamp_fault}
-use Rattle.jobs.specs.Items.{nth, refusing, is_kind, Extent, extent_of, Turned, flat, cone, ball, turned_pitch, turned_fault, fitted, known, turned_in, turned_of, height_of, clamp_in, clamp_of, move_of}
+use Rattle.jobs.specs.Items.{nth, is_kind, Extent, extent_of, Turned, flat, cone, ball, turned_pitch, turned_fault, fitted, known, turned_in, turned_of, height_of, clamp_in, clamp_of, move_of}
 use Rattle.jobs.specs.Encodings.{GridWords, CutterWords, HeightWords, ClampWords, MoveWords}
 use Rattle.jobs.proofs.Exactness.{Made}
 use Rattle.jobs.proofs.Checks.{refusing_takes, cond_takes, kind_takes, within_pos, grid_in}

@@ -30,6 +30,7 @@ impl Kind for Moves {
 }
 
 // Takes the words kind, column, row and tip, and three more for the other end, as a move.
+// No TryFrom of the public type, since where the words stand is the reader's alone, as with the other kinds.
 fn to_move(words: [i32; 7]) -> Result<Move, Fault>
     ensures { result ≡ move_of words }
 {

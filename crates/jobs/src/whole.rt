@@ -59,6 +59,7 @@ fn all_sections(store: Store, input: &mut Reader<'_>) -> Result<Job, Bad>
     input.count(Section::Allowance, Counts::exactly(0))?;
     let few = Counts::up_to(16);
     let clamps = input.listed(&Clamps { grid }, Section::Clamps, few, store.clamps)?;
+    // all that a word can count, of which the bytes that are left hold at most 2,340
     let any = Counts::up_to(2147483647);
     let moves = input.listed(&Moves, Section::Moves, any, store.moves)?;
     Ok(Job {

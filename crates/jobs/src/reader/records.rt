@@ -66,6 +66,7 @@ impl Reader<'_> {
     {
         let mut items = into.room;
         for at in 0..count {
+            // reading has no want of memory: the room was asked for with the store
             items.push_reserved(self.record(kind, section, at)?);
         }
         Ok(items)
