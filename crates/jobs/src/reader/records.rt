@@ -53,7 +53,7 @@ impl Reader<'_> {
     }
 
     // Reads so many records into the room for them.
-    #[tactic(auto, using(crate::proofs::Turns::records_stop, crate::proofs::Turns::records_done))]
+    #[tactic(auto, using(crate::proofs::Turns::records_more, crate::proofs::Turns::records_stop, crate::proofs::Turns::records_done))]
     fn run<K: Kind, const N: usize>(
         &mut self,
         kind: &K,
