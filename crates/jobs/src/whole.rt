@@ -18,7 +18,7 @@ use zmap::Fault;
 const LONGEST: usize = 65536;
 
 // Reads the job that the bytes encode into the store, or tells the first fault of them.
-#[tactic(auto, unfolding(crate::specs::Jobs::parse))]
+#[tactic(auto, using(crate::proofs::ExactJobs::law), unfolding(crate::specs::Jobs::parse))]
 pub fn read(store: Store, bytes: &[u8]) -> Result<Job, Bad>
     ensures result { MatchResult result (λ job. parse bytes.now ≡ Ok (told job)) (λ bad. parse bytes.now ≡ Err bad) }
     ensures law { Decodes bytes.now result }
