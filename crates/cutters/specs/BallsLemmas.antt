@@ -2,7 +2,6 @@
 use Rattle.std.specs.Prelude.{◌≡◌, ℕ, ◌+◌, ◌-◌, ◌*◌, ◌<◌, ◌≤◌, true, Some, nat_le}
 use Rattle.std.proofs.Common.{sym, ap, subst, ◌∙◌, arith}
 use Rattle.std.proofs.lemmas.Nat.{mul-le, mul-lt}
-use Rattle.std.proofs.lemmas.Bool.{le-leb, lt-leb}
 use Rattle.cutters.specs.Balls.{ball_height, ball_shape, BallStands, BallDrawn, RootUp}
 use Rattle.cutters.specs.Discs.{square, in_disc}
 use Rattle.cutters.specs.Profiles.{Lawful}
@@ -12,10 +11,10 @@ use Rattle.zmap.specs.declared.node.Offset.{Offset}
 
 -- a whole root, and one that is rounded up
 pub root_whole : (n r : ℕ) → r * r ≤ n → n ≤ r * r → RootUp n r
-root_whole n r low high = record { has = high; bounds = λ k l. omega (arith, mul-lt k k r r l l) }
+root_whole n r low high = record { has = high; bounds = λ k l. grind (arith, mul-lt k k r r) }
 
 pub root_more : (n r : ℕ) → r * r < n → n < (r + 1) * (r + 1) → RootUp n (r + 1)
-root_more n r low high = record { has = omega arith; bounds = λ k l. omega (arith, mul-le k k r r (omega arith) (omega arith)) }
+root_more n r low high = record { has = omega arith; bounds = λ k l. grind (arith, mul-le k k r r) }
 
 -- the root is at most the radius
 pub root_under : (R q d : ℕ) → RootUp (R * R - q) d → d ≤ R
@@ -24,10 +23,9 @@ root_under R q d s = grind (arith, s.bounds R)
 pub ball_root : (R q d : ℕ) → q ≤ R * R → RootUp (R * R - q) d → BallStands R q (R - d)
 ball_root R q d near s =
     let under = root_under R q d s in
-    let e : R - (R - d) ≡ d = omega arith in
     record {
       most = omega arith;
-      has = simp e (omega (arith, s.has));
+      has = let e : R - (R - d) ≡ d = omega arith in simp e (omega (arith, s.has));
       bounds = λ k l m. omega (arith, s.bounds (R - k) (omega arith));
     }
 
@@ -35,14 +33,14 @@ ball_root R q d near s =
 pub ball_unique : (R q h : ℕ) → BallStands R q h → ball_height R q ≡ h
 unfolding ball_height
 ball_unique R q h s =
-    largest_unique (λ k. nat_le (R * R) ((R - k) * (R - k) + q)) R h s.most (le-leb _ _ s.has) (λ k i j. lt-leb _ _ (s.bounds k i j))
+    largest_unique (λ k. nat_le (R * R) ((R - k) * (R - k) + q)) R h s.most (grind (arith, s.has)) (λ k i j. grind (arith, s.bounds k i j))
 
 ball_below : (R q : ℕ) → ball_height R q ≤ R
 unfolding ball_height
 ball_below R q = largest_below _ R
 
 ball_tip : (R : ℕ) → BallStands R 0 0
-ball_tip R = let e : R - 0 ≡ R = omega arith in record { most = omega arith; has = simp e (omega arith); bounds = λ k l m. omega (arith, mul-lt (R - k) (R - k) R R (omega arith) (omega arith)) }
+ball_tip R = record { most = omega arith; has = grind arith; bounds = λ k l m. grind (arith, mul-lt (R - k) (R - k) R R) }
 
 pub ball_lawful : (p R : ℕ) → R ≤ 15999 → R < 16 * p → Lawful 15 (ball_shape p R)
 ball_lawful p R slim near =

@@ -1,8 +1,8 @@
 -- The height of a cone: by its root, by its formula, and its laws. Assumes nothing.
-use Rattle.std.specs.Prelude.{◌≡◌, ℕ, ◌+◌, ◌-◌, ◌*◌, ◌/◌, ◌<◌, ◌≤◌, true, leb, Some, nat_le, refl}
-use Rattle.std.proofs.Common.{sym, subst, ◌∙◌, inl, inr, arith}
+use Rattle.std.specs.Prelude.{◌≡◌, ℕ, ◌+◌, ◌-◌, ◌*◌, ◌/◌, ◌<◌, ◌≤◌, true, leb, Some, refl}
+use Rattle.std.proofs.Common.{sym, subst, inl, inr, arith}
 use Rattle.std.proofs.lemmas.Nat.{mul-le, mul-lt}
-use Rattle.std.proofs.lemmas.Bool.{cases_lt, cond-true, cond-false, le-leb, lt-leb}
+use Rattle.std.proofs.lemmas.Bool.{cases_lt, le-leb, lt-leb}
 use Rattle.cutters.specs.Cones.{cone_height, cone_shape, ConeStands, ConeDrawn}
 use Rattle.cutters.specs.Discs.{square, in_disc}
 use Rattle.cutters.specs.Profiles.{Lawful, centre}
@@ -25,7 +25,7 @@ cone_root T S q r h past low high e =
     record {
       level = λ l. absurd (omega arith);
       has = λ _. omega (arith, mul-le (1000 * h + S * T) (1000 * h + S * T) r r under under);
-      bounds = λ _ k l. let over : r + 1 ≤ 1000 * k + S * T = omega arith in omega (arith, mul-le (r + 1) (r + 1) (1000 * k + S * T) (1000 * k + S * T) over over);
+      bounds = λ _ k l. grind (arith, mul-le (r + 1) (r + 1) (1000 * k + S * T) (1000 * k + S * T));
     }
 
 pub cone_level : (T S q : ℕ) → q ≤ T * T → ConeStands T S q 0
@@ -37,9 +37,9 @@ unfolding cone_height
 cone_unique T S q h b s =
     elim (cases_lt (T * T) q) [
       | inl l ↦
-          cond-false (nat_le q (T * T)) _ _ (lt-leb q (T * T) l)
-          ∙ largest_unique (λ k. leb ((1000 * k + S * T) * (1000 * k + S * T)) (S * S * q)) 200000 h b (le-leb _ _ (s.has l)) (λ k i j. lt-leb _ _ (s.bounds l k i))
-      | inr l ↦ cond-true (nat_le q (T * T)) _ _ (le-leb q (T * T) l) ∙ sym (s.level l)
+          let e = largest_unique (λ k. leb ((1000 * k + S * T) * (1000 * k + S * T)) (S * S * q)) 200000 h b (le-leb _ _ (s.has l)) (λ k i j. lt-leb _ _ (s.bounds l k i)) in
+          grind (arith, e)
+      | inr l ↦ grind (arith, s.level)
     ]
 
 pub cone_below : (T S q : ℕ) → cone_height T S q ≤ 200000

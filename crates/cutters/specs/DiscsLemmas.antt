@@ -1,5 +1,5 @@
 -- A disc covers the tip, and nothing past 15 columns and rows where its radius is below 16 pitches. Assumes nothing.
-use Rattle.std.specs.Prelude.{◌≡◌, ℕ, ◌+◌, ◌*◌, ◌<◌, ◌≤◌, true, false, cond, Some, None, unsigned_abs}
+use Rattle.std.specs.Prelude.{◌≡◌, ℕ, ◌+◌, ◌*◌, ◌<◌, ◌≤◌, true, false, cond, Some, None, nat_le, unsigned_abs}
 use Rattle.std.proofs.Common.{arith}
 use Rattle.std.proofs.lemmas.Nat.{mul-le, mul-lt}
 use Rattle.std.proofs.lemmas.Bool.{le-leb, and_from}
@@ -20,13 +20,9 @@ pub square_told : (p : ℕ) (o : Offset) {x y : ℕ} → x ≡ unsigned_abs o.dx
 unfolding square
 square_told p o e f = simp (e, f)
 
-pub disc_in : (p R : ℕ) (o : Offset) (q : ℕ) → q ≡ square p o → q ≤ R * R → in_disc p R o ≡ true
+pub disc_tested : (p R : ℕ) (o : Offset) (q : ℕ) → q ≡ square p o → in_disc p R o ≡ nat_le q (R * R)
 unfolding in_disc
-disc_in p R o q e h = grind arith
-
-pub disc_out : (p R : ℕ) (o : Offset) (q : ℕ) → q ≡ square p o → R * R < q → in_disc p R o ≡ false
-unfolding in_disc
-disc_out p R o q e h = grind arith
+disc_tested p R o q e = simp e
 
 pub disc_le : (p R : ℕ) (o : Offset) → in_disc p R o ≡ true → square p o ≤ R * R
 unfolding in_disc
@@ -76,4 +72,4 @@ disc_lawful p R f h c b =
     }
 
 -- the square at an offset, and whether the disc covers it
-pub ruleset disc_squares = (far_x, far_y, disc_fits, disc_in, disc_out, square_told)
+pub ruleset disc_squares = (far_x, far_y, disc_fits, disc_tested, square_told)

@@ -3,6 +3,7 @@ use Rattle.std.specs.Prelude.{ℕ, ◌<◌, Bool, true, cond, ◌&&◌, List, le
 use Rattle.zmap.specs.Limits.{within}
 use Rattle.zmap.specs.declared.fault.Fault.{Fault}
 use Rattle.zmap.specs.declared.fault.Fault.TheVariants as fault
+use Rattle.zmap.specs.declared.node.Offset.{Offset}
 
 -- z is an entry: a height from 0 to 200,000, or −1 where nothing is covered
 abbrev pub Entry : ℤ → Type 0
@@ -23,6 +24,10 @@ is_nought z = within (pos 0) (pos 0) z
 -- whether a column or a row is at most 7 away
 abbrev pub is_close : ℤ → Bool
 is_close d = within (negsuc 6) (pos 7) d
+
+-- whether o has an entry: it is at most 7 columns and 7 rows away
+abbrev pub has_entry : Offset → Bool
+has_entry o = is_close o.dx && is_close o.dy
 
 -- whether z may be the entry at (dx, dy), where the centre takes only 0
 abbrev pub is_allowed : ℤ → ℤ → ℤ → Bool

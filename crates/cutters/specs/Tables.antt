@@ -1,7 +1,7 @@
 -- The table of a measured cutter, read by offset; what is written, and what the cutter stands for. Assumes nothing.
-use Rattle.std.specs.Prelude.{◌≡◌, ℕ, cond, ◌&&◌, ℤ, pos, negsuc, Some, None, Option, MatchOption, ◌≢◌}
+use Rattle.std.specs.Prelude.{◌≡◌, ℕ, cond, ℤ, pos, negsuc, Some, None, Option, MatchOption, ◌≢◌}
 use Rattle.cutters.specs.Cells.{cell}
-use Rattle.cutters.specs.Entries.{index, is_close}
+use Rattle.cutters.specs.Entries.{has_entry, index}
 use Rattle.cutters.specs.Profiles.{Near, Profile}
 use Rattle.cutters.specs.declared.table.Table.{Table}
 use Rattle.zmap.specs.declared.node.Offset.{Offset}
@@ -17,7 +17,7 @@ height_of (negsuc n) = None
 
 -- the measured cutter: what the entry tells, and nothing past 7 columns and rows
 abbrev pub measured_shape : Table → Profile
-measured_shape t o = cond (is_close o.dx && is_close o.dy) (height_of (entry_at t o)) None
+measured_shape t o = cond (has_entry o) (height_of (entry_at t o)) None
 
 -- r is what the measured cutter is to answer at o: nothing exactly where o is past 7 columns or rows, or its entry is −1
 abbrev pub MeasuredDrawn : Table → Offset → Option ℕ → Type 0

@@ -1,10 +1,10 @@
 -- The table of a measured cutter, by offset: its laws, an entry read, an entry written. Assumes nothing.
-use Rattle.std.specs.Prelude.{◌≡◌, ℕ, ◌<◌, true, ◌&&◌, replicate, get_or, ℤ, pos, negsuc, ◌+ℤ◌, ◌≤ℤ◌, Some, None, unsigned_abs, refl}
-use Rattle.std.proofs.Common.{sym, ap, subst, ◌∙◌, inl, inr, arith}
+use Rattle.std.specs.Prelude.{◌≡◌, ℕ, ◌<◌, true, replicate, get_or, ℤ, pos, negsuc, ◌+ℤ◌, ◌≤ℤ◌, Some}
+use Rattle.std.proofs.Common.{sym, ap, subst, ◌∙◌, arith}
 use Rattle.std.proofs.lemmas.Int.{ints}
-use Rattle.std.proofs.lemmas.Bool.{and_parts, cases_Bool, cond-false, cond-true}
+use Rattle.std.proofs.lemmas.Option.{none-some}
 use Rattle.cutters.specs.Cells.{cell}
-use Rattle.cutters.specs.Entries.{Entry, index, is_allowed, is_close, is_entry}
+use Rattle.cutters.specs.Entries.{Entry, index, has_entry, is_allowed}
 use Rattle.cutters.specs.Profiles.{Lawful, Near}
 use Rattle.cutters.specs.Tables.{Blank, MeasuredDrawn, Written, entry_at, height_of, measured_shape}
 use Rattle.cutters.specs.declared.row.Row.{Row}
@@ -12,24 +12,12 @@ use Rattle.cutters.specs.declared.table.Table.{Table}
 use Rattle.cutters.specs.CellsLemmas.{Put, cell_is, cell_ranged, cell_same}
 use Rattle.zmap.specs.declared.node.Offset.{Offset}
 
-close_low : (d : ℤ) → is_close d ≡ true → negsuc 6 ≤ℤ d
-close_low d e = grind (arith, ints)
-
-close_high : (d : ℤ) → is_close d ≡ true → d ≤ℤ pos 7
-close_high d e = grind (arith, ints)
-
-pub near_close : (o : Offset) → (is_close o.dx && is_close o.dy) ≡ true → Near 7 o
-near_close o b =
-    let p = and_parts (is_close o.dx) (is_close o.dy) b in
-    record { west = close_low _ p.0; east = close_high _ p.0; north = close_low _ p.1; south = close_high _ p.1 }
-
-magnitude : (z : ℤ) → pos 0 ≤ℤ z → z ≡ pos (unsigned_abs z)
-magnitude (pos n) h = refl
-magnitude (negsuc n) h = absurd (omega (arith, ints))
+pub near_close : (o : Offset) → has_entry o ≡ true → Near 7 o
+near_close o b = record { west = grind (arith, ints); east = grind (arith, ints); north = grind (arith, ints); south = grind (arith, ints) }
 
 -- the index is the number of rows or columns from −7 on
 index_is : (d : ℤ) → negsuc 6 ≤ℤ d → (d +ℤ pos 7) ≡ pos (index d)
-index_is d h = magnitude (d +ℤ pos 7) (omega (arith, ints))
+index_is d h = grind (arith, ints)
 
 index_below : (d : ℤ) → negsuc 6 ≤ℤ d → d ≤ℤ pos 7 → index d < 15
 index_below d l h = omega (arith, ints, index_is d l)
@@ -52,20 +40,12 @@ unfolding entry_at
 blank t r e f o n = cell_same t.rows r (pos 0) (index o.dy) (index o.dx) e f (index_below o.dy n.north n.south) (index_below o.dx n.west n.east)
 
 height_told : (z : ℤ) (h : ℕ) → height_of z ≡ Some h → z ≡ pos h
-height_told (pos n) h e = cc
-height_told (negsuc n) h e = let z : ◌≡◌ {A = ℕ} 0 1 = cc in absurd (omega arith)
+height_told (pos n) h e = grind arith
+height_told (negsuc n) h e = absurd (none-some h e)
 
 -- what the cutter answers at an offset that is covered
 shape_told : (t : Table) (o : Offset) (h : ℕ) → measured_shape t o ≡ Some h → Near 7 o × (entry_at t o ≡ pos h)
-shape_told t o h e =
-    elim (cases_Bool (is_close o.dx && is_close o.dy)) [
-      | inl b ↦
-          (near_close o b, height_told (entry_at t o) h (sym (cond-true (is_close o.dx && is_close o.dy) _ _ b) ∙ e))
-      | inr b ↦
-          let g : None ≡ Some h = sym (cond-false (is_close o.dx && is_close o.dy) (height_of (entry_at t o)) None b) ∙ e in
-          let z : ◌≡◌ {A = ℕ} 0 1 = cc in
-          absurd (omega arith)
-    ]
+shape_told t o h e = grind (arith, near_close o, height_told (entry_at t o) h, none-some h)
 
 pub measured_lawful : (t : Table) → Lawful 7 (measured_shape t)
 unfolding entry_at
@@ -86,27 +66,21 @@ pub entry_read : (t : Table) (o : Offset) (i j : ℕ) (d : Row) → i ≡ index 
 entry_read t o i j d e f l = sym (cell_is t.rows i j d (omega (arith, t.sized))) ∙ entry_is t o i j e f
 
 -- what the cutter answers at an offset that is covered
-pub table_reading : (t : Table) (o : Offset) (z : ℤ) → z ≡ entry_at t o → (is_close o.dx && is_close o.dy) ≡ true → MeasuredDrawn t o (height_of z)
-table_reading t o z e b =
-    let n = near_close o b in
-    drawn_told t o z (sym e) n (subst Entry (sym e) (entry_ranged t o n))
+pub entry_drawn : (t : Table) (o : Offset) (z : ℤ) → z ≡ entry_at t o → has_entry o ≡ true → MeasuredDrawn t o (height_of z)
+entry_drawn t o z e b = let n = near_close o b in drawn_told t o z (sym e) n (subst Entry (sym e) (entry_ranged t o n))
 
 pub written : (t t' : Table) (o : Offset) (z z' : ℤ) (i j : ℕ) → z' ≡ z → i ≡ index o.dy → j ≡ index o.dx → Near 7 o → Put t.rows i j z' t'.rows → Written t o z t'
 unfolding entry_at
 written t t' o z z' i j same e f n p =
     record {
       written = sym (entry_is t' o i j e f) ∙ p.here ∙ same;
-      row = λ q m y x.
-          let k : index q.dy ≡ i = ap index y ∙ sym e in
-          ap (λ s. cell t'.rows s (index q.dx)) k
-          ∙ p.row (index q.dx) (λ l. x (index_unique _ _ m.west n.west (l ∙ f)))
-          ∙ ap (λ s. cell t.rows s (index q.dx)) (sym k);
-      rest = λ q m y. p.rest (index q.dy) (index q.dx) (λ l. y (index_unique _ _ m.north n.north (l ∙ e)));
+      row = λ q m y x. grind (arith, p.row (index q.dx), index_unique q.dx o.dx m.west n.west);
+      rest = λ q m y. grind (arith, p.rest (index q.dy) (index q.dx), index_unique q.dy o.dy m.north n.north);
     }
 
 -- an entry that is allowed, and what that is where the tip stands
 pub allowed_entry : (o : Offset) (z : ℤ) → is_allowed o.dx o.dy z ≡ true → Entry z
-allowed_entry o z a = let e = and_parts (is_entry z) _ a in (grind (arith, ints), grind (arith, ints))
+allowed_entry o z a = (grind (arith, ints), grind (arith, ints))
 
 pub allowed_centre : (o : Offset) (z : ℤ) (i j : ℕ) → is_allowed o.dx o.dy z ≡ true → Near 7 o → i ≡ index o.dy → j ≡ index o.dx → i ≡ 7 → j ≡ 7 → z ≡ pos 0
 allowed_centre o z i j a n e f k l =

@@ -1,6 +1,5 @@
 // Which offsets a disc covers.
-ghost use Rattle.std.specs.Prelude.{◌≡◌, true, false, MatchOption};
-ghost use Rattle.cutters.specs.Discs.{square, in_disc};
+ghost use Rattle.cutters.specs.Discs.{Squared};
 
 use crate::Disc;
 use zmap::Offset;
@@ -9,7 +8,7 @@ impl Disc {
     // The square of the distance to the offset, in µm², or nothing where the disc does not cover it.
     #[tactic(auto, using(crate::specs::DiscsLemmas::disc_squares))]
     pub(crate) fn square_at(&self, o: Offset) -> Option<u32>
-        ensures { MatchOption result (in_disc self.now.pitch.microns self.now.radius o ≡ false) (λ q. (in_disc self.now.pitch.microns self.now.radius o ≡ true) × (q ≡ square self.now.pitch.microns o)) }
+        ensures { Squared self.now.pitch.microns self.now.radius o result }
     {
         let dx = o.dx.unsigned_abs();
         let dy = o.dy.unsigned_abs();

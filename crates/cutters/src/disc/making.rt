@@ -13,10 +13,9 @@ impl Disc {
         ensures holds { IfOk result (λ d. (pos d.pitch.microns ≡ pitch) × (pos d.radius ≡ radius)) }
     {
         let pitch = Pitch::new(pitch)?;
-        let radius = up_to(15999, radius).ok_or(Fault::Radius)?;
-        if radius >= 16 * pitch.microns {
-            return Err(Fault::Radius);
-        }
+        let radius = up_to(15999, radius)
+            .filter(|r| *r < 16 * pitch.microns)
+            .ok_or(Fault::Radius)?;
         Ok(Disc { pitch, radius })
     }
 }

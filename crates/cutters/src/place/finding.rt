@@ -1,6 +1,6 @@
 // The place of an entry, found by its offset.
-ghost use Rattle.std.specs.Prelude.{◌≡◌, ◌<◌, ◌&&◌, true, false, MatchOption};
-ghost use Rattle.cutters.specs.Entries.{index, is_close};
+ghost use Rattle.std.specs.Prelude.{◌≡◌, ◌<◌, true, false, MatchOption};
+ghost use Rattle.cutters.specs.Entries.{has_entry, index, is_close};
 
 use crate::place::Place;
 use zmap::Offset;
@@ -8,7 +8,7 @@ use zmap::Offset;
 impl Place {
     // The place of the entry at the offset, or nothing past seven columns and rows.
     pub(crate) fn of(o: Offset) -> Option<Place>
-        ensures { MatchOption result ((is_close o.dx && is_close o.dy) ≡ false) (λ p. ((is_close o.dx && is_close o.dy) ≡ true) × (p.row ≡ index o.dy) × (p.column ≡ index o.dx)) }
+        ensures { MatchOption result (has_entry o ≡ false) (λ p. (has_entry o ≡ true) × (p.row ≡ index o.dy) × (p.column ≡ index o.dx)) }
     {
         let column = index_of(o.dx)?;
         let row = index_of(o.dy)?;

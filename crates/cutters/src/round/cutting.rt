@@ -26,9 +26,9 @@ impl Cutter for RoundTool {
 
     fn pitch(&self) -> Pitch {
         match self {
-            RoundTool::Flat(t) => t.disc.pitch,
-            RoundTool::Cone(t) => t.disc.pitch,
-            RoundTool::Ball(t) => t.disc.pitch,
+            RoundTool::Flat(t) => t.pitch(),
+            RoundTool::Cone(t) => t.pitch(),
+            RoundTool::Ball(t) => t.pitch(),
         }
     }
 

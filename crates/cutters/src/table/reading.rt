@@ -1,6 +1,6 @@
 // Entries read.
-ghost use Rattle.std.specs.Prelude.{◌≡◌, ◌&&◌, true, false, MatchOption};
-ghost use Rattle.cutters.specs.Entries.{is_close};
+ghost use Rattle.std.specs.Prelude.{◌≡◌, true, false, MatchOption};
+ghost use Rattle.cutters.specs.Entries.{has_entry};
 ghost use Rattle.cutters.specs.Tables.{entry_at, height_of, measured_shape, MeasuredDrawn};
 
 use crate::place::Place;
@@ -9,7 +9,7 @@ use zmap::Offset;
 
 impl Table {
     // The height at the offset, or nothing where that is not covered.
-    #[tactic(auto, using(crate::specs::TablesLemmas::table_reading))]
+    #[tactic(auto, using(crate::specs::TablesLemmas::entry_drawn))]
     pub(crate) fn read(&self, o: Offset) -> Option<u32>
         ensures value { result ≡ measured_shape self.now o }
         ensures drawn { MeasuredDrawn self.now o result }
@@ -20,7 +20,7 @@ impl Table {
     // The entry at the offset, or nothing past seven columns and rows.
     #[tactic(auto, using(crate::specs::TablesLemmas::entry_read))]
     fn entry(&self, o: Offset) -> Option<i32>
-        ensures { MatchOption result ((is_close o.dx && is_close o.dy) ≡ false) (λ z. ((is_close o.dx && is_close o.dy) ≡ true) × (z ≡ entry_at self.now o)) }
+        ensures { MatchOption result (has_entry o ≡ false) (λ z. (has_entry o ≡ true) × (z ≡ entry_at self.now o)) }
     {
         let at = Place::of(o)?;
         Some(self.rows[at.row].heights[at.column])

@@ -7,13 +7,13 @@ use cutters::Cutter;
 use zmap::{Offset, Pitch};
 
 impl Cutter for Hook {
-    const REACH: i32 = 2;
+    const REACH: u32 = 2;
+
+    ghost REACH = { 2 };
 
     ghost spacing = { λ t. t.pitch.microns };
 
     ghost shape = { λ t. hook_shape };
-
-    ghost widest = { λ t. 2 };
 
     ghost lawful = { Prim.search rules };
 
@@ -29,9 +29,5 @@ impl Cutter for Hook {
             (2, -1) => Some(520),
             _ => None,
         }
-    }
-
-    fn widest_reach(&self) -> i32 {
-        Self::REACH
     }
 }
