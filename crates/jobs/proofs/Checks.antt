@@ -1,13 +1,10 @@
 -- What it says that a check passed. Assumes nothing.
-use Rattle.std.proofs.Common.{◌≡◌, ℕ, ◌≤◌, Bool, true, false, cond, ◌&&◌, leb, ℤ, pos, negsuc, nat_abs, Some, None, Ok, Err, Option, Result, refl, ap, subst, arith, eqb-true, le-leb, leb-true}
+use Rattle.std.proofs.Common.{◌≡◌, ℕ, ◌≤◌, Bool, true, false, cond, ◌&&◌, leb, ℤ, pos, negsuc, nat_abs, Some, None, Ok, Err, Option, Result, refl, ap, subst, eqb-true, le-leb, leb-true}
+use Rattle.std.proofs.lemmas.Bool.{and_parts}
 use Rattle.zmap.specs.Limits.{within}
 use Rattle.zmap.specs.declared.fault.Fault.{Fault}
 use Rattle.zmap.specs.declared.fault.Fault.TheVariants as fault
 use Rattle.jobs.specs.Items.{refusing, is_kind, counted}
-
-pub both : (a b : Bool) → (a && b) ≡ true → (a ≡ true) × (b ≡ true)
-both true b h = (refl, h)
-both false b h = cc
 
 pub refusing_takes : {X : Type 0} (o : Option Fault) (r : Result X Fault) (x : X) → refusing o r ≡ Ok x → (o ≡ None) × (r ≡ Ok x)
 refusing_takes None r x h = (refl, h)
@@ -25,7 +22,7 @@ kind_takes k (negsuc n) h = cc
 pub counted_takes : (low high : ℕ) (w : ℤ) (n : ℕ) → counted low high w ≡ Ok n → (w ≡ pos n) × (low ≤ n) × (n ≤ high)
 counted_takes low high (pos m) n h =
     let t = cond_takes (leb low m && leb m high) (Ok m) fault.Count n h in
-    let b = both (leb low m) (leb m high) t.0 in
+    let b = and_parts (leb low m) (leb m high) t.0 in
     let e : m ≡ n = cc in
     (ap pos e, subst (λ k. low ≤ k) e (leb-true low m b.0), subst (λ k. k ≤ high) e (leb-true m high b.1))
 counted_takes low high (negsuc m) n h = cc

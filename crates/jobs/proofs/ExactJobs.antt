@@ -1,14 +1,14 @@
 -- The reader takes exactly the bytes that encode an allowed job. Assumes nothing.
-use Rattle.std.proofs.Common.{◌≡◌, ℕ, cond, eqb, leb, List, [], ◌∷◌, ◌++◌, length, ℤ, pos, Ok, Err, Result, MatchResult, sym, refl, ap, ◌∙◌, subst, arith, eqb-true, le-leb, leb-true}
+use Rattle.std.proofs.Common.{◌≡◌, ℕ, eqb, leb, List, [], ◌∷◌, ◌++◌, length, ℤ, pos, Ok, Err, Result, MatchResult, sym, refl, ap, subst, arith, eqb-true, le-leb, leb-true}
 use Rattle.std.proofs.lemmas.List.{append-nil, nil_from_length}
 use Rattle.setups.specs.declared.clamp.Clamp.{Clamp}
 use Rattle.jobs.specs.declared.bad.Bad.{Bad}
 use Rattle.jobs.specs.declared.job.Job.{Job}
 use Rattle.jobs.specs.declared.job.Move.{Move}
-use Rattle.jobs.specs.declared.section.Section.TheVariants.{Whole, Facets, Allowance}
+use Rattle.jobs.specs.declared.section.Section.TheVariants.{Facets, Allowance}
 use Rattle.jobs.specs.Parsers.{Reads}
 use Rattle.jobs.specs.Items.{Extent, Turned}
-use Rattle.jobs.specs.Jobs.{Reading, told, sections, over, ended, parse}
+use Rattle.jobs.specs.Jobs.{Reading, told, sections, ended, parse}
 use Rattle.jobs.specs.Encodings.{MoveWords, Section, Words, Allowed, Encodes, Decodes}
 use Rattle.jobs.proofs.Exactness.{Exact, After, exact_then, exact_end, exact_same}
 use Rattle.jobs.proofs.Checks.{cond_takes}
@@ -37,10 +37,7 @@ laid_takes j ws r1 =
     let r5 = r4.5 in
     let r6 = r5.5 in
     let r7 = r6.5 in
-    let e6 : r5.2 ≡ r6.1 ++ r7.1 = r6.3 ∙ ap (λ v. r6.1 ++ v) (r7.3 ∙ ap (λ v. r7.1 ++ v) r7.5.1 ∙ append-nil r7.1) in
-    let e5 : r4.2 ≡ pos 0 ∷ (r6.1 ++ r7.1) = r5.3 ∙ ap (λ u. u ++ r5.2) r5.4.0 ∙ ap (λ v. pos 0 ∷ v) e6 in
-    let e4 : r3.2 ≡ pos 0 ∷ pos 0 ∷ (r6.1 ++ r7.1) = r4.3 ∙ ap (λ u. u ++ r4.2) r4.4.0 ∙ ap (λ v. pos 0 ∷ v) e5 in
-    let whole = r1.3 ∙ ap (λ v. r1.1 ++ v) (r2.3 ∙ ap (λ v. r2.1 ++ v) (r3.3 ∙ ap (λ v. r3.1 ++ v) e4)) in
+    let whole : ws ≡ r1.1 ++ (r2.1 ++ (r3.1 ++ (pos 0 ∷ pos 0 ∷ (r6.1 ++ r7.1)))) = rw (r1.3, r2.3, r3.3, r4.3, r4.4.0, r5.3, r5.4.0, r6.3, r7.3, r7.5.1, append-nil) refl in
     subst (λ i. Words i ws × Allowed i) r7.5.0 (
       record {
         grid = r1.1;
@@ -121,7 +118,7 @@ ended_takes : (p : Reads Reading Bad) (j : Reading) → ended p ≡ Ok j → p �
 ended_takes (Ok q) j h =
     let t = cond_takes (eqb (length q.1) 0) (Ok q.0) _ j h in
     let e : q.0 ≡ j = cc in
-    ap (λ v. Ok (v, q.1)) e ∙ ap (λ l. Ok (j, l)) (nil_from_length q.1 (eqb-true _ 0 t.0))
+    subst (λ i. ◌≡◌ {A = Reads Reading Bad} (Ok q) (Ok (i, []))) e (ap (λ l. Ok (q.0, l)) (nil_from_length q.1 (eqb-true _ 0 t.0)))
 ended_takes (Err e) j h = cc
 
 parse_takes : (bs : List ℕ) (j : Reading) → parse bs ≡ Ok j → Encodes bs j
@@ -135,7 +132,7 @@ parse_gives : (bs : List ℕ) (j : Reading) → Encodes bs j → parse bs ≡ Ok
 unfolding parse
 parse_gives bs j e =
     let s = exact_sections.gives j e.words bs [] (e.laid, e.allowed) e.spelt in
-    ap (λ b. cond b (ended (sections bs)) (Err (over Whole))) (le-leb (length bs) 65536 e.short) ∙ ap ended s
+    rw (le-leb (length bs) 65536 e.short) (ap ended s)
 
 -- a job that was read is the one that the bytes encode, and bytes that are bad encode none
 pub law : (bs : List ℕ) (r : Result Job Bad) → MatchResult r (λ job. parse bs ≡ Ok (told job)) (λ bad. parse bs ≡ Err bad) → Decodes bs r

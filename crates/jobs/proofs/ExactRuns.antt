@@ -54,7 +54,7 @@ exact_count section low high =
     exact_placed section 0 (one_record 1 (count_of low high)) (CountWord low high)
     (exact_same (one_record 1 (count_of low high)) (Made 1 (count_of low high)) (CountWord low high) (exact_record 1 (count_of low high))
     (λ n us m. let t = counted_takes low high (nth us 0) n m.1 in (spread_one us m.0 ∙ ap (λ w. w ∷ []) t.0, t.1, t.2))
-    (λ n us w. subst (λ v. Made 1 (count_of low high) n v) (sym w.0) (refl, counted_gives low high n w.1 w.2)))
+    (λ n us w. rw w.0 (refl, counted_gives low high n w.1 w.2)))
 
 -- a count that was read is in range
 pub count_within : (section : Named) (low high n : ℕ) (bs rest : List ℕ) → count section low high bs ≡ Ok (n, rest) → (low ≤ n) × (n ≤ high)
@@ -78,7 +78,7 @@ module _ {X : Type 0} (width : ℕ) (f : List ℤ → Result X Fault) (L : X →
   exact_listed section low high =
       exact_same _ _ _ (exact_then (count section low high) (CountWord low high) (λ n rest. records width f section n rest) (λ n xs ws. (length xs ≡ n) × InTurn (Made width f) xs ws) (exact_count section low high) (exact_records width f section))
       (λ xs ws r. let t = turns_to xs r.2 r.5.1 in let e = r.5.0 in
-      ((r.2, r.3 ∙ ap (λ us. us ++ r.2) r.4.0 ∙ ap (λ n. pos n ∷ r.2) (sym e), t.0), t.1, subst (λ n. low ≤ n) (sym e) r.4.1, subst (λ n. n ≤ high) (sym e) r.4.2))
+      ((r.2, rw (r.3, r.4.0, e) refl, t.0), t.1, rw e r.4.1, rw e r.4.2))
       (λ xs ws r. (length xs, pos (length xs) ∷ [], r.0.0, r.0.1, (refl, r.2, r.3), (refl, turns_from xs r.0.0 r.0.2 r.1)))
 
   -- a section of one record
@@ -87,6 +87,6 @@ module _ {X : Type 0} (width : ℕ) (f : List ℤ → Result X Fault) (L : X →
   exact_single section =
       exact_same _ _ _ (exact_then (count section 1 1) (CountWord 1 1) (λ n rest. placed section 0 (one_record width f rest)) (λ n. Made width f) (exact_count section 1 1) (λ n. one width f section 0))
       (λ x ws r. let a = to x r.2 r.5 in let e : r.0 ≡ 1 = omega (arith, r.4.1, r.4.2) in
-      ((r.2, r.3 ∙ ap (λ us. us ++ r.2) r.4.0 ∙ ap (λ n. pos n ∷ r.2) e, (r.2, [], sym (append-nil r.2), a.0, refl)), a.1))
+      ((r.2, rw (r.3, r.4.0, e) refl, (r.2, [], sym (append-nil r.2), a.0, refl)), a.1))
       (λ x ws r. let t = r.0.2 in
-      (1, pos 1 ∷ [], t.0, r.0.1 ∙ ap (λ v. pos 1 ∷ v) (t.2 ∙ ap (λ v. t.0 ++ v) t.4 ∙ append-nil t.0), (refl, omega arith, omega arith), from x t.0 t.3 r.1))
+      (1, pos 1 ∷ [], t.0, rw (r.0.1, t.2, t.4, append-nil) refl, (refl, omega arith, omega arith), from x t.0 t.3 r.1))

@@ -1,5 +1,5 @@
 -- Parsers that take exactly the words of what they give, and how they join. Assumes nothing.
-use Rattle.std.proofs.Common.{◌≡◌, ℕ, zero, suc, ◌≤◌, Bool, true, false, cond, leb, List, [], ◌∷◌, ◌++◌, length, drop, ℤ, Ok, Err, Result, sym, refl, ap, ◌∙◌, subst, append_assoc, arith, le-leb, leb-true}
+use Rattle.std.proofs.Common.{◌≡◌, ℕ, zero, suc, ◌≤◌, cond, leb, List, [], ◌∷◌, ◌++◌, length, drop, ℤ, Ok, Err, Result, sym, refl, ap, ◌∙◌, subst, append_assoc, le-leb, leb-true}
 use Rattle.std.proofs.lemmas.List.{append-nil}
 use Rattle.zmap.specs.declared.fault.Fault.{Fault}
 use Rattle.zmap.specs.declared.fault.Fault.TheVariants as fault
@@ -7,6 +7,7 @@ use Rattle.jobs.specs.declared.section.Section.{Section}
 use Rattle.jobs.specs.Parsers.{Reads, then, number, word, words, words_onto}
 use Rattle.jobs.specs.Records.{leaving, one_record, placed}
 use Rattle.jobs.specs.Encodings.{Spells}
+use Rattle.jobs.proofs.Checks.{cond_takes}
 
 -- P reads a value x exactly from the words that R says of x
 pub record Exact {X E : Type 0} (P : List ℕ → Reads X E) (R : X → List ℤ → Type 0) : Type 0 where
@@ -30,11 +31,10 @@ then_takes (Ok p) q y rest h = (p.0, p.1, refl, h)
 then_takes (Err e) q y rest h = cc
 
 word_takes : (bs : List ℕ) (w : ℤ) (rest : List ℕ) → word bs ≡ Ok (w, rest) → (4 ≤ length bs) × (number bs ≡ w) × (drop 4 bs ≡ rest)
-word_takes bs w rest h = go (leb 4 (length bs)) refl h
-  where
-    go : (b : Bool) → leb 4 (length bs) ≡ b → cond {A = Reads ℤ Fault} b (Ok (number bs, drop 4 bs)) (Err fault.Short) ≡ Ok (w, rest) → (4 ≤ length bs) × (number bs ≡ w) × (drop 4 bs ≡ rest)
-    go true e k = let p = ok_both _ _ _ _ k in (leb-true 4 (length bs) e, p.0, p.1)
-    go false e k = cc
+word_takes bs w rest h =
+    let t = cond_takes (leb 4 (length bs)) (Ok (number bs, drop 4 bs)) fault.Short (w, rest) h in
+    let p = ok_both _ _ _ _ t.1 in
+    (leb-true 4 (length bs) t.0, p.0, p.1)
 
 words_takes : (n : ℕ) (acc out : List ℤ) (bs rest : List ℕ) → words_onto n acc bs ≡ Ok (out, rest) → (ws : List ℤ) × (out ≡ acc ++ ws) × (length ws ≡ n) × Spells ws bs rest
 unfolding words_onto

@@ -1,12 +1,12 @@
 -- The words of each kind of record, read off from what they make. Assumes nothing.
-use Rattle.std.proofs.Common.{◌≡◌, ℕ, zero, suc, ◌*◌, ◌≤◌, Bool, true, false, cond, leb, List, [], ◌∷◌, length, ℤ, pos, nat_abs, Some, None, Ok, Err, Option, sym, refl, ap, ◌∙◌, subst, arith, le-leb, leb-true}
+use Rattle.std.proofs.Common.{◌≡◌, ℕ, zero, suc, ◌*◌, ◌≤◌, Bool, true, false, cond, leb, List, [], ◌∷◌, length, ℤ, pos, nat_abs, Some, None, Ok, Option, refl, ap, ◌∙◌, subst, le-leb, leb-true}
 use Rattle.zmap.specs.Faults.{grid_fault}
 use Rattle.zmap.specs.declared.fault.Fault.TheVariants as fault
 use Rattle.setups.specs.declared.clamp.Clamp.{Clamp}
 use Rattle.jobs.specs.declared.job.Move.{Move}
 use Rattle.jobs.specs.declared.job.Move.TheVariants.{Pose}
 use Rattle.setups.specs.Clamps.{clamp_fault}
-use Rattle.jobs.specs.Items.{nth, refusing, is_kind, Extent, extent_of, Turned, flat, cone, ball, turned_pitch, turned_fault, fitted, known, turned_in, turned_of, height_of, clamp_in, clamp_of, move_of}
+use Rattle.jobs.specs.Items.{nth, is_kind, Extent, extent_of, Turned, flat, cone, ball, turned_pitch, turned_fault, fitted, known, turned_in, turned_of, height_of, clamp_in, clamp_of, move_of}
 use Rattle.jobs.specs.Encodings.{GridWords, CutterWords, HeightWords, ClampWords, MoveWords}
 use Rattle.jobs.proofs.Exactness.{Made}
 use Rattle.jobs.proofs.Checks.{refusing_takes, cond_takes, kind_takes, within_pos, grid_in}
@@ -33,6 +33,9 @@ spread_one us e = spread 1 us e
 abbrev pub Gridded : Extent → Type 0
 Gridded g = (grid_fault (pos g.columns) (pos g.rows) (pos g.pitch) ≡ None) × (g.columns * g.rows ≤ 4096)
 
+same_fault : (a b d x y z : ℤ) → x ≡ a → y ≡ b → z ≡ d → grid_fault a b d ≡ None → grid_fault x y z ≡ None
+same_fault a b d x y z p q r h = rw (p, q, r) h
+
 pub grid_takes : (g : Extent) (us : List ℤ) → Made 3 extent_of g us → GridWords g us × Gridded g
 unfolding tabled
 grid_takes g us m =
@@ -44,16 +47,10 @@ grid_takes g us m =
     let p = within_pos 10 1000 (nth us 2) i.2 in
     let d = cond_takes (leb (nat_abs (nth us 0) * nat_abs (nth us 1)) 4096) _ fault.Count g t.1 in
     let e : record { columns = nat_abs (nth us 0); rows = nat_abs (nth us 1); pitch = nat_abs (nth us 2) } ≡ g = cc in
-    let ec : pos g.columns ≡ nth us 0 = ap (λ x. pos x.columns) (sym e) ∙ c in
-    let er : pos g.rows ≡ nth us 1 = ap (λ x. pos x.rows) (sym e) ∙ r in
-    let ep : pos g.pitch ≡ nth us 2 = ap (λ x. pos x.pitch) (sym e) ∙ p in
-    (s ∙ rw (ec, er, ep), (ap (λ x. grid_fault x (pos g.rows) (pos g.pitch)) ec ∙ ap (λ x. grid_fault (nth us 0) x (pos g.pitch)) er ∙ ap (λ x. grid_fault (nth us 0) (nth us 1) x) ep ∙ t.0, subst (λ x. x.columns * x.rows ≤ 4096) e (leb-true _ 4096 d.0)))
+    subst (λ x. GridWords x us × Gridded x) e (rw (c, r, p) s, (same_fault _ _ _ _ _ _ c r p t.0, leb-true _ 4096 d.0))
 
 pub grid_gives : (g : Extent) (us : List ℤ) → GridWords g us → Gridded g → Made 3 extent_of g us
-grid_gives g us w a =
-    let n : refusing (grid_fault (pos g.columns) (pos g.rows) (pos g.pitch)) (cond (leb (g.columns * g.rows) 4096) (Ok g) (Err fault.Count)) ≡ Ok g
-    = ap (λ o. refusing o (cond (leb (g.columns * g.rows) 4096) (Ok g) (Err fault.Count))) a.0 ∙ ap (λ b. cond b (Ok g) (Err fault.Count)) (le-leb _ 4096 a.1) in
-    subst (λ v. Made 3 extent_of g v) (sym w) (refl, n)
+grid_gives g us w a = rw w (refl, rw (a.0, le-leb _ 4096 a.1))
 
 -- a cutter that is allowed at the pitch
 abbrev pub Fitted : ℕ → Turned → Type 0
@@ -71,39 +68,36 @@ known_takes (Some u) t h =
 abbrev Worded : ℕ → List ℤ → Turned → Type 0
 Worded pitch us t = CutterWords t us × (turned_pitch t ≡ pitch)
 
-some_same : (u t : Turned) → ◌≡◌ {A = Option Turned} (Some u) (Some t) → u ≡ t
-some_same u t h = cc
-
-kinds : (pitch : ℕ) (us : List ℤ) (t : Turned) (a b c : Bool) → us ≡ nth us 0 ∷ nth us 1 ∷ nth us 2 ∷ nth us 3 ∷ [] →
-    (a ≡ true → nth us 0 ≡ pos 1) → (b ≡ true → nth us 0 ≡ pos 2) → (c ≡ true → nth us 0 ≡ pos 3) →
-    cond a (Some (flat pitch (nth us 1))) (cond b (Some (cone pitch (nth us 1) (nth us 2) (nth us 3))) (cond c (Some (ball pitch (nth us 1))) None)) ≡ Some t → Worded pitch us t
-kinds pitch us t true b c s one two three h = subst (Worded pitch us) (some_same _ t h) ((nth us 2, nth us 3, s ∙ ap (λ k. k ∷ nth us 1 ∷ nth us 2 ∷ nth us 3 ∷ []) (one refl)), refl)
-kinds pitch us t false true c s one two three h = subst (Worded pitch us) (some_same _ t h) (s ∙ ap (λ k. k ∷ nth us 1 ∷ nth us 2 ∷ nth us 3 ∷ []) (two refl), refl)
-kinds pitch us t false false true s one two three h = subst (Worded pitch us) (some_same _ t h) ((nth us 2, nth us 3, s ∙ ap (λ k. k ∷ nth us 1 ∷ nth us 2 ∷ nth us 3 ∷ []) (three refl)), refl)
-kinds pitch us t false false false s one two three h = cc
+kinds : (pitch : ℕ) (us : List ℤ) (t : Turned) (k r a b : ℤ) (one two three : Bool) → us ≡ k ∷ r ∷ a ∷ b ∷ [] →
+    (one ≡ true → k ≡ pos 1) → (two ≡ true → k ≡ pos 2) → (three ≡ true → k ≡ pos 3) →
+    cond one (Some (flat pitch r)) (cond two (Some (cone pitch r a b)) (cond three (Some (ball pitch r)) None)) ≡ Some t → Worded pitch us t
+kinds pitch us t k r a b true two three s is_flat is_cone is_ball h =
+    let e : flat pitch r ≡ t = cc in let n = is_flat refl in subst (Worded pitch us) e ((a, b, cc), refl)
+kinds pitch us t k r a b false true three s is_flat is_cone is_ball h =
+    let e : cone pitch r a b ≡ t = cc in let n = is_cone refl in subst (Worded pitch us) e (cc, refl)
+kinds pitch us t k r a b false false true s is_flat is_cone is_ball h =
+    let e : ball pitch r ≡ t = cc in let n = is_ball refl in subst (Worded pitch us) e ((a, b, cc), refl)
+kinds pitch us t k r a b false false false s is_flat is_cone is_ball h = cc
 
 pub cutter_takes : (pitch : ℕ) (t : Turned) (us : List ℤ) → Made 4 (turned_of pitch) t us → CutterWords t us × Fitted pitch t
 unfolding tabled
 cutter_takes pitch t us m =
     let k = known_takes (turned_in pitch us) t m.1 in
-    let w = kinds pitch us t (is_kind 1 (nth us 0)) (is_kind 2 (nth us 0)) (is_kind 3 (nth us 0)) (spread 4 us m.0) (kind_takes 1 (nth us 0)) (kind_takes 2 (nth us 0)) (kind_takes 3 (nth us 0)) k.0 in
+    let w = kinds pitch us t (nth us 0) (nth us 1) (nth us 2) (nth us 3) (is_kind 1 (nth us 0)) (is_kind 2 (nth us 0)) (is_kind 3 (nth us 0)) (spread 4 us m.0) (kind_takes 1 (nth us 0)) (kind_takes 2 (nth us 0)) (kind_takes 3 (nth us 0)) k.0 in
     (w.0, (w.1, k.1))
 
 pub cutter_gives : (pitch : ℕ) (t : Turned) (us : List ℤ) → CutterWords t us → Fitted pitch t → Made 4 (turned_of pitch) t us
 unfolding fitted
-cutter_gives pitch (flat p r) us w a =
-    subst (λ v. Made 4 (turned_of pitch) (flat p r) v) (sym w.2) (refl, subst (λ x. fitted (flat x r) ≡ Ok (flat p r)) a.0 (ap (λ o. refusing o (Ok (flat p r))) a.1))
-cutter_gives pitch (cone p r t s) us w a =
-    subst (λ v. Made 4 (turned_of pitch) (cone p r t s) v) (sym w) (refl, subst (λ x. fitted (cone x r t s) ≡ Ok (cone p r t s)) a.0 (ap (λ o. refusing o (Ok (cone p r t s))) a.1))
-cutter_gives pitch (ball p r) us w a =
-    subst (λ v. Made 4 (turned_of pitch) (ball p r) v) (sym w.2) (refl, subst (λ x. fitted (ball x r) ≡ Ok (ball p r)) a.0 (ap (λ o. refusing o (Ok (ball p r))) a.1))
+cutter_gives pitch (flat p r) us w a = rw (w.2, ← a.0) (refl, rw a.1)
+cutter_gives pitch (cone p r t s) us w a = rw (w, ← a.0) (refl, rw a.1)
+cutter_gives pitch (ball p r) us w a = rw (w.2, ← a.0) (refl, rw a.1)
 
 pub height_takes : (z : ℤ) (us : List ℤ) → Made 1 height_of z us → HeightWords z us × Unit {0}
 unfolding tabled
 height_takes z us m = (spread 1 us m.0 ∙ ap (λ x. x ∷ []) (let e : nth us 0 ≡ z = cc in e), tt)
 
 pub height_gives : (z : ℤ) (us : List ℤ) → HeightWords z us → Unit {0} → Made 1 height_of z us
-height_gives z us w a = subst (λ v. Made 1 height_of z v) (sym w) (refl, refl)
+height_gives z us w a = rw w (refl, refl)
 
 pub clamp_takes : (columns rows : ℕ) (k : Clamp) (us : List ℤ) → Made 5 (clamp_of columns rows) k us → ClampWords k us × (clamp_fault columns rows k ≡ None)
 unfolding tabled
@@ -115,16 +109,16 @@ clamp_takes columns rows k us m =
     )
 
 pub clamp_gives : (columns rows : ℕ) (k : Clamp) (us : List ℤ) → ClampWords k us → clamp_fault columns rows k ≡ None → Made 5 (clamp_of columns rows) k us
-clamp_gives columns rows k us w a =
-    subst (λ v. Made 5 (clamp_of columns rows) k v) (sym w) (refl, ap (λ o. refusing o (Ok k)) a)
+clamp_gives columns rows k us w a = rw w (refl, rw a)
 
 pub move_takes : (m : Move) (us : List ℤ) → Made 7 move_of m us → MoveWords m us × Unit {0}
 unfolding tabled
 move_takes (Pose p) us m =
     let k = cond_takes (is_kind 1 (nth us 0)) (Ok (Pose (record { column = nth us 1; row = nth us 2; tip = nth us 3 }))) fault.Kind (Pose p) m.1 in
     let e : record { column = nth us 1; row = nth us 2; tip = nth us 3 } ≡ p = cc in
-    let ek = kind_takes 1 (nth us 0) k.0 in
-    ((nth us 4, nth us 5, nth us 6, spread 7 us m.0 ∙ ap (λ w. w ∷ nth us 1 ∷ nth us 2 ∷ nth us 3 ∷ nth us 4 ∷ nth us 5 ∷ nth us 6 ∷ []) ek ∙ ap (λ q. pos 1 ∷ q.column ∷ q.row ∷ q.tip ∷ nth us 4 ∷ nth us 5 ∷ nth us 6 ∷ []) e), tt)
+    let n = kind_takes 1 (nth us 0) k.0 in
+    let s = spread 7 us m.0 in
+    (subst (λ q. MoveWords (Pose q) us) e (nth us 4, nth us 5, nth us 6, cc), tt)
 
 pub move_gives : (m : Move) (us : List ℤ) → MoveWords m us → Unit {0} → Made 7 move_of m us
-move_gives (Pose p) us w a = subst (λ v. Made 7 move_of (Pose p) v) (sym w.3) (refl, refl)
+move_gives (Pose p) us w a = rw w.3 (refl, refl)

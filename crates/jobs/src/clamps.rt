@@ -26,7 +26,7 @@ impl Kind for Clamps {
     ghost item = { λ k. clamp_of k.grid.columns k.grid.rows };
 
     fn read(&self, input: &mut Reader<'_>) -> Result<Clamp, Fault> {
-        let words = input.words::<5>()?;
+        let words = input.words()?;
         to_clamp(words, &self.grid)
     }
 }

@@ -13,6 +13,22 @@ pub(crate) struct Counts {
     pub high: usize,
 }
 
+impl Counts {
+    // Allows this count alone.
+    pub(crate) fn exactly(n: usize) -> Counts
+        ensures { result ≡ record { low = n; high = n } }
+    {
+        Counts { low: n, high: n }
+    }
+
+    // Allows the counts from none to this one.
+    pub(crate) fn up_to(n: usize) -> Counts
+        ensures { result ≡ record { low = 0; high = n } }
+    {
+        Counts { low: 0, high: n }
+    }
+}
+
 impl Kind for Counts {
     type Item = usize;
 
@@ -26,16 +42,16 @@ impl Kind for Counts {
 
     fn read(&self, input: &mut Reader<'_>) -> Result<usize, Fault> {
         let [n] = input.words::<1>()?;
-        to_count(n, self.low, self.high)
+        to_count(n, self)
     }
 }
 
-// Takes the word as a count from low to high.
-fn to_count(n: i32, low: usize, high: usize) -> Result<usize, Fault>
-    ensures { result ≡ counted low high n }
+// Takes the word as one of the counts.
+fn to_count(n: i32, counts: &Counts) -> Result<usize, Fault>
+    ensures { result ≡ counted counts.now.low counts.now.high n }
 {
     usize::try_from(n)
         .ok()
-        .filter(|n| (low..=high).contains(n))
+        .filter(|n| (counts.low..=counts.high).contains(n))
         .ok_or(Fault::Count)
 }

@@ -29,7 +29,7 @@ impl Kind for Cutters {
     ghost item = { λ k. turned_of k.pitch.microns };
 
     fn read(&self, input: &mut Reader<'_>) -> Result<RoundTool, Fault> {
-        let words = input.words::<4>()?;
+        let words = input.words()?;
         to_cutter(words, self.pitch)
     }
 }

@@ -22,7 +22,7 @@ impl Kind for Grids {
     ghost item = { λ _. extent_of };
 
     fn read(&self, input: &mut Reader<'_>) -> Result<Grid, Fault> {
-        let words = input.words::<3>()?;
+        let words = input.words()?;
         to_grid(words)
     }
 }

@@ -11,13 +11,15 @@ use zmap::Fault;
 pub(crate) trait Kind {
     type Item: Drop;
 
-    // The item in plain numbers.
+    // What is told of an item: the item itself, or its plain numbers.
     ghost Told: { Type 0 };
 
     ghost told: { Self.Item → Told };
 
+    // How many words a record has.
     ghost width: { ℕ };
 
+    // What the words make.
     ghost item: { Self → List ℤ → Outcome Told Refusal };
 
     // Reads the item of the next record.

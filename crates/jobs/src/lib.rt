@@ -12,7 +12,6 @@ mod job;
 mod kind;
 mod moves;
 mod reader;
-mod records;
 mod section;
 mod store;
 mod whole;

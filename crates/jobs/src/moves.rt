@@ -24,12 +24,13 @@ impl Kind for Moves {
     ghost item = { λ _. move_of };
 
     fn read(&self, input: &mut Reader<'_>) -> Result<Move, Fault> {
-        let words = input.words::<7>()?;
+        let words = input.words()?;
         to_move(words)
     }
 }
 
 // Takes the words kind, column, row and tip, and three more for the other end, as a move.
+// No TryFrom of the public type, since where the words stand is the reader's alone, as with the other kinds.
 fn to_move(words: [i32; 7]) -> Result<Move, Fault>
     ensures { result ≡ move_of words }
 {

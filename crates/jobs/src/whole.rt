@@ -5,12 +5,12 @@ ghost use Rattle.jobs.specs.Jobs.{told, sections, over, parse};
 ghost use Rattle.jobs.specs.Encodings.{Decodes};
 
 use crate::clamps::Clamps;
+use crate::count::Counts;
 use crate::cutter::Cutters;
 use crate::grid::Grids;
 use crate::heights::Heights;
 use crate::moves::Moves;
 use crate::reader::Reader;
-use crate::records::{count, listed, single};
 use crate::{Bad, Job, Section, Store};
 use zmap::Fault;
 
@@ -18,7 +18,7 @@ use zmap::Fault;
 const LONGEST: usize = 65536;
 
 // Reads the job that the bytes encode into the store, or tells the first fault of them.
-#[tactic(auto, unfolding(crate::specs::Jobs::parse))]
+#[tactic(auto, using(crate::proofs::ExactJobs::law), unfolding(crate::specs::Jobs::parse))]
 pub fn read(store: Store, bytes: &[u8]) -> Result<Job, Bad>
     ensures result { MatchResult result (λ job. parse bytes.now ≡ Ok (told job)) (λ bad. parse bytes.now ≡ Err bad) }
     ensures law { Decodes bytes.now result }
@@ -50,29 +50,18 @@ fn over(section: Section) -> Bad
 fn all_sections(store: Store, input: &mut Reader<'_>) -> Result<Job, Bad>
     ensures { Gives told result input.new.rest.now (sections input.old.rest.now) }
 {
-    let grid = single(&Grids, input, Section::Grid)?;
+    let grid = input.single(&Grids, Section::Grid)?;
     let pitch = grid.pitch;
-    let cutter = single(&Cutters { pitch }, input, Section::Cutter)?;
-    let samples = grid.samples();
-    let heights = listed(
-        &Heights,
-        input,
-        Section::Heights,
-        samples,
-        samples,
-        store.heights,
-    )?;
-    count(input, Section::Facets, 0, 0)?;
-    count(input, Section::Allowance, 0, 0)?;
-    let clamps = listed(
-        &Clamps { grid },
-        input,
-        Section::Clamps,
-        0,
-        16,
-        store.clamps,
-    )?;
-    let moves = listed(&Moves, input, Section::Moves, 0, 2147483647, store.moves)?;
+    let cutter = input.single(&Cutters { pitch }, Section::Cutter)?;
+    let samples = Counts::exactly(grid.samples());
+    let heights = input.listed(&Heights, Section::Heights, samples, store.heights)?;
+    input.count(Section::Facets, Counts::exactly(0))?;
+    input.count(Section::Allowance, Counts::exactly(0))?;
+    let few = Counts::up_to(16);
+    let clamps = input.listed(&Clamps { grid }, Section::Clamps, few, store.clamps)?;
+    // all that a word can count, of which the bytes that are left hold at most 2,340
+    let any = Counts::up_to(2147483647);
+    let moves = input.listed(&Moves, Section::Moves, any, store.moves)?;
     Ok(Job {
         grid,
         cutter,

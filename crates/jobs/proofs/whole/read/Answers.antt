@@ -8,14 +8,6 @@ pub returns-clause-law : goal.returns-clause-law
 unfolding parse
 returns-clause-law c = law _ (Ok c.in_ok-job.job) (search rules)
 
-pub returns-then-bytes-gt-LONGEST-clause-law : goal.returns-then-bytes-gt-LONGEST-clause-law
-unfolding parse
-returns-then-bytes-gt-LONGEST-clause-law c = law _ (Err c.over.result) (search rules)
-
-pub returns-in_err-job-clause-law : goal.returns-in_err-job-clause-law
-unfolding parse
-returns-in_err-job-clause-law c = law _ _ (search rules)
-
 pub returns-then-not-is_empty-clause-law : goal.returns-then-not-is_empty-clause-law
 unfolding parse
 returns-then-not-is_empty-clause-law c = law _ (Err c.over-then-not-is_empty.result) (search rules)
