@@ -1,6 +1,6 @@
 -- Weights that balance over a point of the plan: the shoelace formula gives some, and all others are in proportion. Assumes nothing.
 use Rattle.std.proofs.Common.{◌≡◌, ℕ, ◌+◌, ◌*◌, ◌<◌, sym, ◌∙◌, arith}
-use Rattle.facets.specs.declared.corner.Point.{Point}
+use Rattle.facets.specs.declared.point.Point.{Point}
 use Rattle.facets.specs.Shoelaces.{half}
 
 -- the weights u, v and w of a, b and c, not all 0, balance over p

@@ -3,12 +3,13 @@ use Rattle.std.proofs.Common.{◌≡◌, ℕ, ◌+◌, ◌*◌, ◌≤◌, ℤ, 
 use Rattle.std.proofs.lemmas.Int.{ints}
 use Rattle.std.specs.Option.{option_map}
 use Rattle.facets.specs.declared.corner.Corner.{Corner}
-use Rattle.facets.specs.declared.corner.Point.{Point}
+use Rattle.facets.specs.declared.point.Point.{Point}
 use Rattle.facets.specs.declared.facet.Facet.{Facet}
 use Rattle.facets.specs.Drawn.{from_floor, given, facet_at}
 use Rattle.facets.specs.Geometry.{Balances, Covers, NotBelow, Tops, Upright, Gives, Sole, weighed}
 use Rattle.facets.specs.Shoelaces.{half, height_at}
-use Rattle.facets.specs.Vertices.{Placed, Sound, corner_of}
+use Rattle.facets.specs.Corners.{corner_of}
+use Rattle.facets.specs.Vertices.{Placed, Sound}
 use Rattle.facets.proofs.Heights.{Spanned, height_some, height_none}
 use Rattle.facets.proofs.Placing.{corner_some, corner_none}
 use Rattle.facets.proofs.Balance.{Poised}
@@ -107,12 +108,6 @@ given_gives f x y (Some a) (Some b) (Some c) ea eb ec = by_height (height_at p a
 pub facet_gives : (f : Facet) (x y : ℕ) → Gives f x y (facet_at f x y)
 unfolding facet_at
 facet_gives f x y = given_gives f x y (corner_of f.a) (corner_of f.b) (corner_of f.c) refl refl refl
-
--- the height between the corners of the vertices
-pub given_told : (f : Facet) (x y : ℕ) (a b c : Corner) (i j h : ℕ) (r : ℤ) → Some a ≡ corner_of f.a → Some b ≡ corner_of f.b → Some c ≡ corner_of f.c → i ≡ x → j ≡ y →
-    Some h ≡ height_at (record { x = i; y = j }) a b c → r ≡ from_floor h → Some r ≡ facet_at f x y
-unfolding facet_at
-given_told f x y a b c i j h r ea eb ec ei ej e is = rw (← ea, ← eb, ← ec, ← ei, ← ej, ← e) (ap Some is)
 
 roof_never : (f : Facet) (x y : ℕ) (h : ℤ) → Gives f x y None → Gives f x y (Some h) → ⊥
 roof_never f x y h (sound, none) some =

@@ -1,6 +1,5 @@
 pub mod Balance
 pub mod Bounds
-pub mod Computed
 pub mod Giving
 pub mod Heights
 pub mod Placing

@@ -1,10 +1,11 @@
 -- Signed coordinates and heights as unsigned ones: means of the one are means of the other. Assumes nothing.
-use Rattle.std.proofs.Common.{◌≡◌, ℕ, suc, ◌+◌, ◌*◌, ◌<◌, ◌≤◌, ℤ, pos, negsuc, ◌+ℤ◌, ◌*ℤ◌, neg_ℤ, nat_abs, ◌≤ℤ◌, sym, refl, ap, arith}
+use Rattle.std.proofs.Common.{◌≡◌, ℕ, suc, ◌+◌, ◌*◌, ◌<◌, ◌≤◌, true, ℤ, pos, negsuc, ◌+ℤ◌, ◌*ℤ◌, neg_ℤ, nat_abs, ◌≤ℤ◌, sym, refl, ap, arith}
 use Rattle.std.proofs.lemmas.Nat.{mul-le}
 use Rattle.std.proofs.lemmas.Int.{ints}
 use Rattle.facets.specs.declared.corner.Corner.{Corner}
 use Rattle.facets.specs.declared.facet.Vertex.{Vertex}
-use Rattle.facets.specs.Vertices.{Placed, corner_at}
+use Rattle.facets.specs.Corners.{corner_at, placed_tested}
+use Rattle.facets.specs.Vertices.{is_placed}
 use Rattle.facets.specs.Geometry.{weighed}
 use Rattle.facets.proofs.Weights.{times_sum}
 
@@ -40,8 +41,9 @@ natural : (z : ℤ) → pos 0 ≤ℤ z → z ≡ pos (nat_abs z)
 natural (pos n) h = refl
 natural (negsuc n) h = absurd (omega (arith, ints))
 
-pub told : (v : Vertex) → Placed v → Told v (corner_at v)
-told v p =
+pub told : (v : Vertex) (e : is_placed v ≡ true) → Told v (corner_at v e)
+told v e =
+    let p = placed_tested v e in
     record {
       across = record { is = omega (arith, ints, natural v.x p.across.0) };
       along = record { is = omega (arith, ints, natural v.y p.along.0) };

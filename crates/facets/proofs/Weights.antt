@@ -4,8 +4,9 @@ use native.Mathlib.Nat.{le_of_mul-le-mul_left}
 use Rattle.std.proofs.lemmas.Nat.{mul-le, div-add-mod', mod_below}
 use Rattle.std.proofs.lemmas.Bool.{cases_lt}
 use Rattle.facets.specs.declared.corner.Corner.{Corner}
-use Rattle.facets.specs.declared.corner.Point.{Point}
-use Rattle.facets.specs.Shoelaces.{half, rounded_up}
+use Rattle.facets.specs.declared.point.Point.{Point}
+use Rattle.std.specs.Int.{div_ceil}
+use Rattle.facets.specs.Shoelaces.{half}
 use Rattle.facets.proofs.Balance.{Poised, poised_turned, proportion, swept_poised}
 
 -- n times a sum
@@ -73,16 +74,20 @@ pub record RoundsUp (t n k : ℕ) : Type 0 where
   pub over : t ≤ n * k
   pub least : (j : ℕ) → t ≤ n * j → k ≤ j
 
-pub rounds_up : (t n : ℕ) → 0 < n → RoundsUp t n (rounded_up t n)
+pub rounds_up : (t n : ℕ) → 0 < n → RoundsUp t n (div_ceil t n)
 rounds_up t n some =
     let d = div-add-mod' t n in
     let m = mod_below t n some in
     ⊎_elim
-    (λ (l : 0 < t % n). let e : rounded_up t n ≡ t / n + 1 = omega arith in
+    (λ (l : 0 < t % n). let e : div_ceil t n ≡ t / n + 1 = omega arith in
     rw e record { over = omega arith; least = λ j h. ⊎_elim (λ (g : t / n < j). omega arith) (λ (g : j ≤ t / n). absurd (omega (arith, mul-le n j n (t / n) (omega arith) g))) (cases_lt (t / n) j) })
-    (λ (l : t % n ≤ 0). let e : rounded_up t n ≡ t / n = omega arith in
+    (λ (l : t % n ≤ 0). let e : div_ceil t n ≡ t / n = omega arith in
     rw e record { over = omega arith; least = λ j h. le_of_mul-le-mul_left {k = n} (omega arith) some })
     (cases_lt 0 (t % n))
+
+-- n parts of what is at most n times so many are at most so many each
+pub rounded_low : (t n m k : ℕ) → 0 < n → t ≤ n * m → k ≡ div_ceil t n → k ≤ m
+rounded_low t n m k some le is = omega (arith, (rounds_up t n some).least m le)
 
 -- the heights that the weights and the areas give stand in the same proportion
 weighed_as : (n t u v w U V W i j k : ℕ) → n * U ≡ u * t → n * V ≡ v * t → n * W ≡ w * t → n * (U * i + V * j + W * k) ≡ t * (u * i + v * j + w * k)

@@ -3,10 +3,10 @@ use Rattle.std.specs.Prelude.{ℕ, ℤ, pos, ◌+ℤ◌, Some, None, Option}
 use Rattle.std.specs.Option.{option_map}
 use Rattle.zmap.specs.Limits.{floor, ceiling}
 use Rattle.facets.specs.declared.corner.Corner.{Corner}
-use Rattle.facets.specs.declared.corner.Point.{Point}
+use Rattle.facets.specs.declared.point.Point.{Point}
 use Rattle.facets.specs.declared.facet.Facet.{Facet}
 use Rattle.facets.specs.Shoelaces.{height_at}
-use Rattle.facets.specs.Vertices.{corner_of}
+use Rattle.facets.specs.Corners.{corner_of}
 
 -- the height that stands so many µm above the floor
 abbrev pub from_floor : ℕ → ℤ

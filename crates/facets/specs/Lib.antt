@@ -1,4 +1,5 @@
 pub mod Shoelaces
 pub mod Vertices
+pub mod Corners
 pub mod Drawn
 pub mod Geometry

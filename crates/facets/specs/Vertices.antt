@@ -1,7 +1,6 @@
--- Vertices in range, and what stands for them in unsigned numbers. Assumes nothing.
-use Rattle.std.specs.Prelude.{Bool, cond, ◌&&◌, ℤ, pos, ◌+ℤ◌, ◌≤ℤ◌, Some, None, Option, unsigned_abs}
+-- Vertices in range. Assumes nothing.
+use Rattle.std.specs.Prelude.{Bool, ◌&&◌, ℤ, pos, ◌≤ℤ◌}
 use Rattle.zmap.specs.Limits.{Height, is_height, within}
-use Rattle.facets.specs.declared.corner.Corner.{Corner}
 use Rattle.facets.specs.declared.facet.Facet.{Facet}
 use Rattle.facets.specs.declared.facet.Vertex.{Vertex}
 
@@ -23,16 +22,4 @@ pub record Sound (f : Facet) : Type 0 where
 
 -- whether the vertex is in range
 abbrev pub is_placed : Vertex → Bool
-is_placed v = within (pos 0) (pos 1000000) v.x && (within (pos 0) (pos 1000000) v.y && is_height v.z)
-
--- whether all three vertices are in range
-abbrev pub is_sound : Facet → Bool
-is_sound f = is_placed f.a && (is_placed f.b && is_placed f.c)
-
--- the vertex as a corner, its height counted from the floor
-abbrev pub corner_at : Vertex → Corner
-corner_at v = record { at = record { x = unsigned_abs v.x; y = unsigned_abs v.y }; z = unsigned_abs (v.z +ℤ pos 500000) }
-
--- the corner of a vertex in range
-unfoldable pub corner_of : Vertex → Option Corner
-corner_of v = cond (is_placed v) (Some (corner_at v)) None
+is_placed v = within (pos 0) (pos 1000000) v.x && within (pos 0) (pos 1000000) v.y && is_height v.z

@@ -3,6 +3,7 @@
 
 mod corner;
 mod facet;
+mod point;
 mod shoelace;
 
 pub use facet::{Facet, Vertex};

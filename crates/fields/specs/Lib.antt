@@ -1,6 +1,6 @@
+pub mod Charts
+pub mod ChartRange
 pub mod Rasters
-pub mod RasterRange
 pub mod Drawings
 pub mod DrawingRange
 pub mod Surveys
-pub mod SurveyRange

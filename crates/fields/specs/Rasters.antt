@@ -1,21 +1,21 @@
 -- What a raster stands for, and what its check finds. Assumes nothing.
-use Rattle.std.specs.Prelude.{◌≡◌, ℕ, ◌<◌, cond, ◌&&◌, ◌⊎◌, List, length, ℤ, pos, ◌≢◌, nat_lt, slice_index_or}
-use Rattle.zmap.specs.Limits.{ceiling, Height, is_height}
-use Rattle.zmap.specs.Maps.{place, size}
-use Rattle.zmap.specs.declared.class.Class.TheVariants.{Part}
+use Rattle.std.specs.Prelude.{◌≡◌, ℕ, ◌<◌, ◌⊎◌, List, length, ℤ, pos, ◌≢◌, slice_index_or}
+use Rattle.zmap.specs.Limits.{Height}
+use Rattle.zmap.specs.Maps.{size}
 use Rattle.zmap.specs.declared.fault.Fault.{Fault}
 use Rattle.zmap.specs.declared.fault.Fault.TheVariants as fault
 use Rattle.zmap.specs.declared.grid.Grid.{Grid}
 use Rattle.zmap.specs.declared.node.Node.{Node}
 use Rattle.zmap.specs.declared.sample.Sample.{Sample}
+use Rattle.fields.specs.Charts.{chart_at, chart_sample, told_height}
 
 -- the entry at place i, or the ceiling where it is missing or no height
 abbrev pub raster_height : List ℤ → ℕ → ℤ
-raster_height hs i = cond (nat_lt i (length hs) && is_height (slice_index_or hs i (pos 0))) (slice_index_or hs i (pos 0)) ceiling
+raster_height hs i = (chart_at told_height hs i).height
 
 -- the sample at n: the entry at its place, class part
 abbrev pub raster_sample : Grid → List ℤ → Node → Sample
-raster_sample g hs n = record { height = raster_height hs (place g n); class = Part }
+raster_sample = chart_sample told_height
 
 -- every entry is a height
 abbrev pub AllHeights : List ℤ → Type 0

@@ -1,29 +1,20 @@
 -- What a survey stands for, and what taking one writes. Assumes nothing.
-use Rattle.std.specs.Prelude.{◌≡◌, ℕ, cond, ◌&&◌, List, length, pos, nat_lt, slice_index_or}
-use Rattle.zmap.specs.Limits.{ceiling, is_height}
+use Rattle.std.specs.Prelude.{◌≡◌, ℕ, List, length, slice_index_or}
 use Rattle.zmap.specs.Maps.{On, place, size}
-use Rattle.zmap.specs.declared.class.Class.TheVariants.{Part}
 use Rattle.zmap.specs.declared.fault.Fault.{Fault}
 use Rattle.zmap.specs.declared.fault.Fault.TheVariants as fault
 use Rattle.zmap.specs.declared.grid.Grid.{Grid}
 use Rattle.zmap.specs.declared.node.Node.{Node}
 use Rattle.zmap.specs.declared.sample.Sample.{Sample}
-
--- what stands where a survey has no sample
-abbrev pub unread : Sample
-unread = record { height = ceiling; class = Part }
-
--- the entry at place i, which is one of the list's
-abbrev pub entry : List Sample → ℕ → Sample
-entry ms i = slice_index_or ms i (record { height = pos 0; class = Part })
+use Rattle.fields.specs.Charts.{chart_at, chart_sample}
 
 -- the sample at place i, or the ceiling where it is missing or no height
 abbrev pub survey_at : List Sample → ℕ → Sample
-survey_at ms i = cond (nat_lt i (length ms) && is_height (entry ms i).height) (entry ms i) unread
+survey_at = chart_at (λ s. s)
 
 -- the sample at n: the one at its place
 abbrev pub survey_sample : Grid → List Sample → Node → Sample
-survey_sample g ms n = survey_at ms (place g n)
+survey_sample = chart_sample (λ s. s)
 
 -- ms holds the surface of a field: the sample of each node at its place, so that the survey of ms is the field again
 pub record Surveyed (g : Grid) (surface : Node → Sample) (ms : List Sample) : Type 0 where

@@ -1,10 +1,10 @@
-// The fields at the bottom of a pile: heights in row order, facets, and the survey of any field.
+// The fields at the bottom of a pile: charts of heights or of samples, and facets.
 #![tactic(auto)]
 
+mod chart;
 mod drawing;
-mod raster;
-mod survey;
+mod entry;
 
+pub use chart::{Chart, Raster, Survey};
 pub use drawing::Facets;
-pub use raster::Raster;
-pub use survey::Survey;
+pub use entry::Entry;

@@ -1,6 +1,6 @@
 // Whether the vertices of a facet are in range.
-ghost use Rattle.std.specs.Prelude.{◌≡◌, T};
-ghost use Rattle.facets.specs.Vertices.{Sound, is_sound};
+ghost use Rattle.std.specs.Prelude.{T};
+ghost use Rattle.facets.specs.Vertices.{Sound};
 
 use crate::Facet;
 use crate::corner::placing::placed;
@@ -11,13 +11,6 @@ impl Facet {
         ensures yes { T result → Sound self.now }
         ensures no { Sound self.now → T result }
     {
-        all_placed(*self)
+        placed(self.a) && placed(self.b) && placed(self.c)
     }
-}
-
-// Whether every vertex is in range, as one test.
-fn all_placed(f: Facet) -> bool
-    ensures { result ≡ is_sound f }
-{
-    placed(f.a) && (placed(f.b) && placed(f.c))
 }

@@ -1,5 +1,6 @@
 // Whether the vertices of all facets are in range.
-ghost use Rattle.std.specs.Prelude.{◌≡◌, ℕ, MatchOption, MatchResult};
+ghost use Rattle.std.specs.Prelude.{◌≡◌, ℕ, MatchBool, MatchOption, MatchResult};
+ghost use Rattle.facets.specs.Vertices.{Sound};
 ghost use Rattle.zmap.specs.declared.fault.Fault.TheVariants as fault;
 ghost use Rattle.fields.specs.Drawings.{AllSound, FirstUnsound};
 
@@ -23,10 +24,12 @@ impl Facets<'_> {
 fn first_unsound(facets: &[Facet]) -> Option<usize>
     ensures { MatchOption result (AllSound facets.now) (λ i. FirstUnsound facets.now i) }
 {
-    for (i, facet) in facets.iter().enumerate() {
-        if !facet.is_sound() {
-            return Some(i);
-        }
-    }
-    None
+    facets.iter().position(is_unsound)
+}
+
+// Whether a facet has a vertex out of range.
+fn is_unsound(facet: &Facet) -> bool
+    ensures { MatchBool result (Sound facet.now → ⊥) (Sound facet.now) }
+{
+    !facet.is_sound()
 }

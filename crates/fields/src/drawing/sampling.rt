@@ -7,7 +7,7 @@ ghost use Rattle.fields.specs.Drawings.{Highest, along, facets_height, facets_sa
 use crate::Facets;
 use facets::Facet;
 use zmap::heights::FLOOR;
-use zmap::{Class, Field, Grid, Node, Pitch, Sample, greater};
+use zmap::{Class, Field, Grid, Node, Pitch, Sample};
 
 impl Field for Facets<'_> {
     ghost extent = { λ x. x.grid };
@@ -48,19 +48,14 @@ fn away(index: usize, pitch: Pitch) -> u32
 fn highest(facets: &[Facet], x: u32, y: u32) -> i32
     ensures { result ≡ facets_height facets.now x y }
 {
-    let mut height = FLOOR;
-    for facet in facets {
-        height = heightened(height, *facet, x, y);
-    }
-    height
+    facets
+        .iter()
+        .fold(FLOOR, |height, facet| heightened(height, *facet, x, y))
 }
 
 // The greater of a height and of what the facet gives over a point, where it gives one.
 fn heightened(height: i32, facet: Facet, x: u32, y: u32) -> i32
     ensures { result ≡ heightened x y height facet }
 {
-    match facet.height_over(x, y) {
-        Some(h) => greater(height, h),
-        None => height,
-    }
+    facet.height_over(x, y).map_or(height, |h| height.max(h))
 }

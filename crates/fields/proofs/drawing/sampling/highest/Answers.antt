@@ -1,17 +1,13 @@
--- One facet more.
-use Rattle.std.proofs.Common.{ap, ◌∙◌, w32, SFits, rules}
-use Rattle.std.proofs.lemmas.List.{take_all}
+-- The fold mirrors the definition.
+use Rattle.std.proofs.Common.{w32, SFits, rules}
 use Rattle.std.proofs.lemmas.Int.{to_z-of_z}
-use Rattle.fields.specs.Drawings.{facets_height}
-use Rattle.fields.proofs.Summits.{height_more}
+use Rattle.std.proofs.lemmas.Iterator.{YieldsList-from_slice}
+use Rattle.std.proofs.lemmas.Iterator.Consumers.{fold_from_yields_List}
+use Rattle.fields.specs.Drawings.{heightened}
 use Rattle.fields.proofs.drawing.sampling.highest.Goals as goal
-
-pub loop-facet-preserved : goal.loop-facet-preserved
-loop-facet-preserved c =
-    let f : SFits w32 c.heightened-height.result = search rules in
-    let more = height_more _ _ c.args.facets.now _ _ _ _ c.loop-facet-test.true c.loop-facet.invariant c.heightened-height.ensures in
-    simp (to_z-of_z w32 c.heightened-height.result f) more
 
 pub returns : goal.returns
 returns c =
-    c.loop-facet.invariant ∙ ap (λ fs. facets_height fs c.args.x c.args.y) (take_all _ _ c.loop-facet-test.false)
+    let e = fold_from_yields_List _ (heightened c.args.x c.args.y) _ c.fold.result c.fold.ensures.ran (YieldsList-from_slice c.args.facets.now cc) (λ a x b q k. search rules) in
+    let f : SFits w32 c.fold.result = search rules in
+    simp (to_z-of_z w32 c.fold.result f) e

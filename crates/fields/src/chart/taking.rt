@@ -1,7 +1,7 @@
 // Every sample of a field, read once.
 ghost use Rattle.std.specs.Prelude.{◌≡◌, ◌<◌, MatchResult};
-ghost use Rattle.zmap.specs.Maps.{size};
 ghost use Rattle.fields.specs.Surveys.{Surveyed, ToldAt, Unfit};
+ghost use Rattle.zmap.specs.Maps.{size};
 
 use crate::Survey;
 use zmap::{Fault, Field, Sample};
@@ -11,12 +11,11 @@ impl Survey<'_> {
     pub fn take<F: Field>(field: &F, memory: &mut [Sample]) -> Result<(), Fault>
         ensures { MatchResult result (λ _. Surveyed (F.Field.extent field.now) (F.Field.surface field.now) memory.new) (λ e. Unfit (F.Field.extent field.now) memory.old memory.new e) }
     {
-        let grid = field.grid();
-        if memory.len() != grid.samples() {
+        if memory.len() != field.grid().samples() {
             return Err(Fault::MapLength);
         }
-        for i in 0..memory.len() {
-            memory[i] = told_at(field, i);
+        for (i, slot) in memory.iter_mut().enumerate() {
+            *slot = told_at(field, i);
         }
         Ok(())
     }
@@ -30,8 +29,8 @@ fn told_at<F: Field>(field: &F, i: usize) -> Sample
     let Some(n) = field.grid().node_at(i) else {
         unreachable()
     };
-    match field.sample(n) {
-        Some(s) => s,
-        None => unreachable(),
-    }
+    let Some(s) = field.sample(n) else {
+        unreachable()
+    };
+    s
 }

@@ -9,12 +9,12 @@ use zmap::heights::{CEILING, FLOOR};
 impl Raster<'_> {
     // Nothing, or what is wrong first: the length, then the first entry that is no height.
     pub fn check(&self) -> Result<(), Fault>
-        ensures { MatchResult result (λ _. Whole self.now.grid self.now.heights.now) (λ e. Flawed self.now.grid self.now.heights.now e) }
+        ensures { MatchResult result (λ _. Whole self.now.grid self.now.entries.now) (λ e. Flawed self.now.grid self.now.entries.now e) }
     {
-        if self.heights.len() != self.grid.samples() {
+        if self.entries.len() != self.grid.samples() {
             return Err(Fault::RasterLength);
         }
-        match first_bad(self.heights) {
+        match first_bad(self.entries) {
             Some(i) => Err(Fault::RasterHeight(i)),
             None => Ok(()),
         }
@@ -25,10 +25,5 @@ impl Raster<'_> {
 fn first_bad(heights: &[i32]) -> Option<usize>
     ensures { MatchOption result (AllHeights heights.now) (λ i. FirstBad heights.now i) }
 {
-    for (i, z) in heights.iter().enumerate() {
-        if *z < FLOOR || *z > CEILING {
-            return Some(i);
-        }
-    }
-    None
+    heights.iter().position(|z| !(FLOOR..=CEILING).contains(z))
 }
