@@ -6,7 +6,8 @@ use Rattle.std.specs.List.{AllByRecursion}
 use Rattle.std.specs.Result.{IsOk}
 use Rattle.zmap.specs.declared.fault.Fault.{Fault}
 use Rattle.zmap.specs.declared.grid.Grid.{Grid}
-use Rattle.setups.specs.Clamps.{FaultIs, adding_fault, clamp_fault}
+use Rattle.zmap.specs.Faults.{FaultIs}
+use Rattle.setups.specs.Clamps.{adding_fault, clamp_fault}
 use Rattle.setups.specs.declared.clamp.Clamp.{Clamp}
 use Rattle.runs.specs.Guards.{Fresh}
 use Rattle.setups.proofs.Entries.{adding_none}

@@ -9,10 +9,6 @@ use Rattle.zmap.specs.declared.fault.Fault.TheVariants as fault
 use Rattle.setups.specs.declared.clamp.Clamp.{Clamp}
 use Rattle.setups.specs.declared.clamp.Span.{Span}
 
--- a call was refused by this fault, or by none
-abbrev pub FaultIs : {A : Type 0} → Result A Fault → Option Fault → Type 0
-FaultIs r f = MatchResult r (λ _. f ≡ None) (λ e. f ≡ Some e)
-
 -- whether a span lies on a map of so many columns, or rows, and does not run backward
 abbrev pub is_span : Span → ℕ → Bool
 is_span s end = int_le (pos 0) s.first && int_le s.first s.last && int_lt s.last (pos end)

@@ -1,6 +1,6 @@
 // The trial: a ramp under two clamps, cut by a hook, with a line for each pose and one for each row of the block.
 ghost use Rattle.std.specs.Prelude.{◌≡◌, [], ◌∷◌, IfOk};
-ghost use Rattle.setups.specs.Clamps.{FaultIs};
+ghost use Rattle.zmap.specs.Faults.{FaultIs};
 ghost use Rattle.setups.specs.Tables.{clamps_of, Raised};
 ghost use Rattle.strangers.specs.Trials.{clamped_fault};
 

@@ -1,5 +1,5 @@
 -- What each refusal says: its number, step, column, row and class, and the refusals of a grid. Assumes nothing.
-use Rattle.std.specs.Prelude.{ℕ, cond, ℤ, pos, Some, None, Option}
+use Rattle.std.specs.Prelude.{◌≡◌, ℕ, cond, ℤ, pos, Some, None, Option, Result, MatchResult}
 use Rattle.zmap.specs.Limits.{within}
 use Rattle.zmap.specs.Contacts.{contact_of}
 use Rattle.zmap.specs.declared.class.Contact.TheVariants.{Clear}
@@ -59,6 +59,10 @@ parts_of fault.Over = bare 30
 abbrev pub or_else : Option Fault → Option Fault → Option Fault
 or_else None g = g
 or_else (Some f) g = Some f
+
+-- the call was refused by the fault that is given, or by none
+abbrev pub FaultIs : {X : Type 0} → Result X Fault → Option Fault → Type 0
+FaultIs r f = MatchResult r (λ _. f ≡ None) (λ e. f ≡ Some e)
 
 -- the refusal of a pitch
 abbrev pub pitch_fault : ℤ → Option Fault

@@ -1,5 +1,6 @@
 // A disc out of plain numbers.
 ghost use Rattle.std.specs.Prelude.{◌≡◌, pos, IfOk, Some, None, MatchResult};
+ghost use Rattle.zmap.specs.Faults.{FaultIs};
 ghost use Rattle.cutters.specs.Making.{round_fault};
 
 use crate::Disc;
@@ -9,7 +10,7 @@ use zmap::{Fault, Pitch};
 impl Disc {
     // A disc of such a pitch and radius, or the first refusal of the two.
     pub(crate) fn new(pitch: i32, radius: i32) -> Result<Disc, Fault>
-        ensures accepts { MatchResult result (λ d. round_fault pitch radius ≡ None) (λ e. round_fault pitch radius ≡ Some e) }
+        ensures accepts { FaultIs result (round_fault pitch radius) }
         ensures holds { IfOk result (λ d. (pos d.pitch.microns ≡ pitch) × (pos d.radius ≡ radius)) }
     {
         let pitch = Pitch::new(pitch)?;

@@ -1,5 +1,6 @@
 // A measured cutter, entry by entry.
 ghost use Rattle.std.specs.Prelude.{◌≡◌, Some, None, MatchResult};
+ghost use Rattle.zmap.specs.Faults.{FaultIs};
 ghost use Rattle.cutters.specs.Entries.{entry_fault};
 ghost use Rattle.cutters.specs.Tables.{Blank, Written};
 
@@ -20,7 +21,7 @@ impl Measured {
 
     // The height as the entry at (dx, dy), or -1 for nothing there; or the first refusal, and the cutter as it was.
     pub fn write(&mut self, dx: i32, dy: i32, height: i32) -> Result<(), Fault>
-        ensures accepts { MatchResult result (λ _. entry_fault dx dy height ≡ None) (λ e. entry_fault dx dy height ≡ Some e) }
+        ensures accepts { FaultIs result (entry_fault dx dy height) }
         ensures table { MatchResult result (λ _. Written self.old.table (record { dx = dx; dy = dy }) height self.new.table) (λ e. self.new.table ≡ self.old.table) }
         ensures rest { self.new.pitch ≡ self.old.pitch }
     {

@@ -1,5 +1,6 @@
 // New tables, and entries written.
 ghost use Rattle.std.specs.Prelude.{◌≡◌, Some, None, MatchResult};
+ghost use Rattle.zmap.specs.Faults.{FaultIs};
 ghost use Rattle.cutters.specs.Entries.{entry_fault, is_allowed};
 ghost use Rattle.cutters.specs.Tables.{Blank, Written};
 
@@ -20,7 +21,7 @@ impl Table {
 
     // The height as the entry at the offset; or the first refusal, and the table as it was.
     pub(crate) fn write(&mut self, o: Offset, height: i32) -> Result<(), Fault>
-        ensures accepts { MatchResult result (λ _. entry_fault o.dx o.dy height ≡ None) (λ e. entry_fault o.dx o.dy height ≡ Some e) }
+        ensures accepts { FaultIs result (entry_fault o.dx o.dy height) }
         ensures table { MatchResult result (λ _. Written self.old o height self.new) (λ e. self.new ≡ self.old) }
     {
         let at = Place::of(o).ok_or(Fault::EntryOffset)?;

@@ -7,7 +7,7 @@ ghost use Rattle.zmap.specs.Limits.{within};
 use crate::Vertex;
 use crate::corner::Corner;
 use crate::point::Point;
-use zmap::heights::{CEILING, FLOOR};
+use zmap::heights::{FLOOR, is_height};
 
 // The most that x and y of a vertex may be, in µm.
 const FARTHEST: i32 = 1000000;
@@ -33,7 +33,7 @@ pub(crate) fn corner_of(v: Vertex) -> Option<Corner>
 pub(crate) fn placed(v: Vertex) -> bool
     ensures { result ≡ is_placed v }
 {
-    near(v.x) && near(v.y) && (FLOOR..=CEILING).contains(&v.z)
+    near(v.x) && near(v.y) && is_height(v.z)
 }
 
 // Whether x or y of a vertex is in range.

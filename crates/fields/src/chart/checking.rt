@@ -4,7 +4,7 @@ ghost use Rattle.fields.specs.Rasters.{Whole, Flawed, AllHeights, FirstBad};
 
 use crate::Raster;
 use zmap::Fault;
-use zmap::heights::{CEILING, FLOOR};
+use zmap::heights::is_height;
 
 impl Raster<'_> {
     // Nothing, or what is wrong first: the length, then the first entry that is no height.
@@ -25,5 +25,5 @@ impl Raster<'_> {
 fn first_bad(heights: &[i32]) -> Option<usize>
     ensures { MatchOption result (AllHeights heights.now) (λ i. FirstBad heights.now i) }
 {
-    heights.iter().position(|z| !(FLOOR..=CEILING).contains(z))
+    heights.iter().position(|z| !is_height(*z))
 }

@@ -5,7 +5,7 @@ ghost use Rattle.fields.specs.Charts.{chart_at, chart_sample};
 ghost use Rattle.zmap.specs.Maps.{place};
 
 use crate::{Chart, Entry};
-use zmap::heights::{CEILING, FLOOR};
+use zmap::heights::{CEILING, is_height};
 use zmap::{Class, Field, Grid, Node, Sample};
 
 impl<T: Entry> Field for Chart<'_, T> {
@@ -37,6 +37,6 @@ fn entry_at<T: Entry>(entries: &[T], i: usize) -> Sample
     entries
         .get(i)
         .map(|e| e.told())
-        .filter(|s| (FLOOR..=CEILING).contains(&s.height))
+        .filter(|s| is_height(s.height))
         .unwrap_or(UNREAD)
 }

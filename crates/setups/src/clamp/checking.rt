@@ -1,9 +1,10 @@
 // Whether a clamp may stand on a map.
 ghost use Rattle.std.specs.Prelude.{◌≡◌, ◌≤◌};
-ghost use Rattle.setups.specs.Clamps.{FaultIs, is_span, clamp_fault};
+ghost use Rattle.zmap.specs.Faults.{FaultIs};
+ghost use Rattle.setups.specs.Clamps.{is_span, clamp_fault};
 
 use crate::{Clamp, Span};
-use zmap::heights::{CEILING, FLOOR};
+use zmap::heights::is_height;
 use zmap::{Fault, Grid};
 
 impl Clamp {
@@ -14,7 +15,7 @@ impl Clamp {
         if !self.columns.fits(grid.columns) || !self.rows.fits(grid.rows) {
             return Err(Fault::ClampExtent);
         }
-        if self.height < FLOOR || self.height > CEILING {
+        if !is_height(self.height) {
             return Err(Fault::ClampHeight);
         }
         Ok(())

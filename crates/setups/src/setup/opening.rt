@@ -1,6 +1,7 @@
 // The open set-up: clamps are added, raised and lowered, until it is locked.
 ghost use Rattle.std.specs.Prelude.{◌≡◌, [], ◌∷◌, ◌++◌, length, IfOk, MatchResult};
-ghost use Rattle.setups.specs.Clamps.{FaultIs, adding_fault, raising_fault};
+ghost use Rattle.zmap.specs.Faults.{FaultIs};
+ghost use Rattle.setups.specs.Clamps.{adding_fault, raising_fault};
 ghost use Rattle.setups.specs.Tables.{clamps_of, Raised};
 
 use crate::{Clamp, Clamps, OpenSetup, Setup};

@@ -1,5 +1,6 @@
 // A stock out of a plain number.
-ghost use Rattle.std.specs.Prelude.{◌≡◌, pos, Some, None, MatchResult};
+ghost use Rattle.std.specs.Prelude.{◌≡◌, pos, Some, None, MatchResult, IfOk};
+ghost use Rattle.zmap.specs.Faults.{FaultIs};
 ghost use Rattle.setups.specs.Stocks.{stock_fault};
 
 use crate::Stock;
@@ -8,7 +9,8 @@ use zmap::Fault;
 impl Stock {
     // Makes a stock of so many µm, or refuses where that is not 0 to 100,000.
     pub fn new(microns: i32) -> Result<Stock, Fault>
-        ensures { MatchResult result (λ a. (stock_fault microns ≡ None) × (pos a.microns ≡ microns)) (λ e. stock_fault microns ≡ Some e) }
+        ensures accepts { FaultIs result (stock_fault microns) }
+        ensures holds { IfOk result (λ a. pos a.microns ≡ microns) }
     {
         if microns < 0 || microns > 100000 {
             return Err(Fault::Allowance);

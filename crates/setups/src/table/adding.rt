@@ -1,6 +1,7 @@
 // New clamps.
 ghost use Rattle.std.specs.Prelude.{◌≡◌, ◌<◌, [], ◌∷◌, ◌++◌, length, IfOk, MatchResult};
-ghost use Rattle.setups.specs.Clamps.{FaultIs, adding_fault};
+ghost use Rattle.zmap.specs.Faults.{FaultIs};
+ghost use Rattle.setups.specs.Clamps.{adding_fault};
 ghost use Rattle.setups.specs.Tables.{clamps_of};
 
 use crate::{Clamp, Clamps, Span};

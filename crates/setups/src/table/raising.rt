@@ -1,11 +1,12 @@
 // Clamps raised or lowered.
 ghost use Rattle.std.specs.Prelude.{◌≡◌, MatchResult};
-ghost use Rattle.setups.specs.Clamps.{FaultIs, raising_fault};
+ghost use Rattle.zmap.specs.Faults.{FaultIs};
+ghost use Rattle.setups.specs.Clamps.{raising_fault};
 ghost use Rattle.setups.specs.Tables.{clamps_of, Raised};
 
 use crate::Clamps;
 use zmap::Fault;
-use zmap::heights::{CEILING, FLOOR};
+use zmap::heights::is_height;
 
 impl Clamps {
     // Brings the clamp of that number to that height; or answers the first refusal, and leaves the table as it was.
@@ -13,7 +14,7 @@ impl Clamps {
         ensures accepts { FaultIs result (raising_fault (clamps_of self.old) number height) }
         ensures table { MatchResult result (λ _. Raised (clamps_of self.old) number height (clamps_of self.new)) (λ e. self.new ≡ self.old) }
     {
-        if height < FLOOR || height > CEILING {
+        if !is_height(height) {
             return Err(Fault::ClampHeight);
         }
         if number >= self.count {

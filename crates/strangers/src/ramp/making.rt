@@ -4,7 +4,7 @@ ghost use Rattle.strangers.specs.Ramps.{is_ramp};
 
 use crate::ramp::Ramp;
 use zmap::Grid;
-use zmap::heights::{CEILING, FLOOR};
+use zmap::heights::is_height;
 
 impl Ramp {
     // Makes a ramp of such a base and step, or answers nothing where the base is no height or the step is above 1,000,000.
@@ -12,7 +12,7 @@ impl Ramp {
         ensures accepts { MatchOption result (is_ramp base step ≡ false) (λ x. is_ramp base step ≡ true) }
         ensures holds { IfSome result (λ x. (x.grid ≡ grid) × (x.base ≡ base) × (x.step ≡ step)) }
     {
-        if base < FLOOR || base > CEILING || step > 1000000 {
+        if !is_height(base) || step > 1000000 {
             return None;
         }
         Some(Ramp { grid, base, step })

@@ -1,13 +1,13 @@
 // A grid out of plain numbers.
 ghost use Rattle.std.specs.Prelude.{◌≡◌, pos, IfOk, Some, None, MatchResult};
-ghost use Rattle.zmap.specs.Faults.{grid_fault};
+ghost use Rattle.zmap.specs.Faults.{FaultIs, grid_fault};
 
 use crate::{Fault, Grid, Pitch};
 
 impl Grid {
     // A grid of so many columns and rows and such a pitch, or the first refusal of the three.
     pub fn new(columns: i32, rows: i32, pitch: i32) -> Result<Grid, Fault>
-        ensures accepts { MatchResult result (λ g. grid_fault columns rows pitch ≡ None) (λ e. grid_fault columns rows pitch ≡ Some e) }
+        ensures accepts { FaultIs result (grid_fault columns rows pitch) }
         ensures holds { IfOk result (λ g. (pos g.columns ≡ columns) × (pos g.rows ≡ rows) × (pos g.pitch.microns ≡ pitch)) }
     {
         if columns < 1 || columns > 512 {

@@ -1,13 +1,14 @@
 // A pitch out of a plain number.
-ghost use Rattle.std.specs.Prelude.{◌≡◌, pos, Some, None, MatchResult};
-ghost use Rattle.zmap.specs.Faults.{pitch_fault};
+ghost use Rattle.std.specs.Prelude.{◌≡◌, pos, Some, None, MatchResult, IfOk};
+ghost use Rattle.zmap.specs.Faults.{FaultIs, pitch_fault};
 
 use crate::{Fault, Pitch};
 
 impl Pitch {
     // A pitch of so many µm, or a refusal where that is not 10 to 1,000.
     pub fn new(microns: i32) -> Result<Pitch, Fault>
-        ensures { MatchResult result (λ p. (pitch_fault microns ≡ None) × (pos p.microns ≡ microns)) (λ e. pitch_fault microns ≡ Some e) }
+        ensures accepts { FaultIs result (pitch_fault microns) }
+        ensures holds { IfOk result (λ p. pos p.microns ≡ microns) }
     {
         if microns < 10 || microns > 1000 {
             return Err(Fault::Pitch);

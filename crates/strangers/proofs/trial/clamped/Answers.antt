@@ -2,7 +2,7 @@
 use Rattle.std.proofs.Common.{◌≡◌, Some, Ok, Err, Result, Option, IsErrAnd, w32, sym, ap, ◌∙◌}
 use Rattle.std.proofs.lemmas.Int.{to_z-of_z}
 use Rattle.zmap.specs.declared.fault.Fault.{Fault}
-use Rattle.setups.specs.Clamps.{FaultIs}
+use Rattle.zmap.specs.Faults.{FaultIs}
 use Rattle.strangers.proofs.trial.clamped.Goals as goal
 
 -- a call that hands on the fault f
