@@ -7,7 +7,7 @@ use crate::{Disc, Flat};
 use zmap::Fault;
 
 impl Flat {
-    // A flat cutter of such a pitch and radius, or the first refusal of the two.
+    // Makes a flat cutter of such a pitch and radius, or tells the first refusal of the two.
     pub fn new(pitch: i32, radius: i32) -> Result<Flat, Fault>
         ensures accepts { FaultIs result (flat_fault pitch radius) }
         ensures holds { IfOk result (λ t. (pos t.disc.pitch.microns ≡ pitch) × (pos t.disc.radius ≡ radius)) }
