@@ -40,7 +40,8 @@ fn lower(grid: &Grid, cover: Cover, block: &mut [i32]) -> u32
     requires on { On grid.now cover.sample }
     requires whole { length block.old ≡ size grid.now }
     ensures fell { result ≡ fall (relief grid.now block.old cover.sample) cover.underside }
-    ensures block { block.new ≡ slice_set block.old (place grid.now cover.sample) (int_min (relief grid.now block.old cover.sample) cover.underside) }
+    ensures block { block.new ≡ slice_set block.old (place grid.now cover.sample)
+        (int_min (relief grid.now block.old cover.sample) cover.underside) }
 {
     let i = grid.place_of(cover.sample).unwrap();
     let was = block[i];

@@ -18,7 +18,8 @@ impl<F: Field, C: Cutter> Scan<'_, F, C> {
     // Tells the sample at an offset from the tip, where the cutter covers one.
     pub(crate) fn covered(&self, o: Offset) -> Option<Cover>
         ensures { let P = C.Cutter.shape self.now.cutter.now in
-            MatchOption result (Bare self.now.grid P self.now.pose.node o) (λ c. Stood self.now.grid P self.now.pose o c.sample c.underside) }
+            MatchOption result (Bare self.now.grid P self.now.pose.node o)
+            (λ c. Stood self.now.grid P self.now.pose o c.sample c.underside) }
     {
         if o.dx.unsigned_abs() > C::REACH || o.dy.unsigned_abs() > C::REACH {
             return None;
