@@ -46,3 +46,5 @@ module _ {X Y : Type 0} (v : X → Y) (width : ℕ) (f : List ℤ → Result Y F
   pub records_done : n ≤ i → records_onto width f section (n - i) i (map v xs) rest ≡ Ok (map v xs, rest)
   unfolding records_onto
   records_done up = let e : n - i ≡ zero = omega arith in rw e
+
+pub ruleset record_turns = (records_more, records_stop, records_done)

@@ -1,7 +1,7 @@
 // Records at the front of the bytes, and sections of them.
 ghost use Rattle.std.specs.Prelude.{◌≡◌, ◌+◌, ◌*◌, length, map, vec_items, OnOk};
 ghost use Rattle.jobs.specs.Parsers.{Gives};
-ghost use Rattle.jobs.specs.Records.{one_record, placed, records, Room};
+ghost use Rattle.jobs.specs.Records.{one_record, placed, Room};
 ghost use Rattle.jobs.specs.Sections.{count, single, listed};
 
 use crate::count::Counts;
@@ -37,7 +37,7 @@ impl Reader<'_> {
     }
 
     // Reads a section of as many records as its count says into the room for them.
-    #[tactic(auto, unfolding(crate::specs::Sections::listed))]
+    #[tactic(auto, using(crate::proofs::Turns::record_turns), unfolding(crate::specs::Sections::listed))]
     pub(crate) fn listed<K: Kind, const N: usize>(
         &mut self,
         kind: &K,
@@ -46,26 +46,12 @@ impl Reader<'_> {
         into: Empty<K::Item, N>,
     ) -> Result<Vec<K::Item>, Bad>
         requires { Room K.width counts.high 65536 N }
-        ensures { Gives (λ v. map K.told (vec_items v)) result self.new.rest.now (listed section counts.low counts.high K.width (K.item kind.now) self.old.rest.now) }
+        ensures { Gives (λ v. map K.told (vec_items v)) result self.new.rest.now
+            (listed section counts.low counts.high K.width (K.item kind.now) self.old.rest.now) }
     {
         let n = self.count(section, counts)?;
-        self.run(kind, section, n, into)
-    }
-
-    // Reads so many records into the room for them.
-    #[tactic(auto, using(crate::proofs::Turns::records_more, crate::proofs::Turns::records_stop, crate::proofs::Turns::records_done))]
-    fn run<K: Kind, const N: usize>(
-        &mut self,
-        kind: &K,
-        section: Section,
-        count: usize,
-        into: Empty<K::Item, N>,
-    ) -> Result<Vec<K::Item>, Bad>
-        requires { Room K.width count (length self.old.rest.now) N }
-        ensures { Gives (λ v. map K.told (vec_items v)) result self.new.rest.now (records K.width (K.item kind.now) section count self.old.rest.now) }
-    {
         let mut items = into.room;
-        for at in 0..count {
+        for at in 0..n {
             // reading has no want of memory: the room was asked for with the store
             items.push_reserved(self.record(kind, section, at)?);
         }

@@ -1,9 +1,0 @@
--- There is room for the next item, whose bytes were there.
-use Rattle.std.proofs.Common.{◌+◌, ◌≤◌, arith}
-use Rattle.jobs.proofs.reader.Reader.run.Goals as goal
-
-pub push_reserved-requires : goal.push_reserved-requires
-push_reserved-requires g c =
-    let i = c.loop-at.invariant in
-    let h : c.loop-at.at + 1 ≤ g.row.N = c.requires (c.loop-at.at + 1) (omega arith) (omega (arith, i.takes, c.in_ok-record.ensures.takes)) in
-    omega (arith, i.held, i.room)
