@@ -33,7 +33,7 @@ fn carry_out(rt: &HostRuntime, job: &Job) -> anyhow::Result<()>
 {
     let part = Raster {
         grid: job.grid,
-        heights: job.heights.as_slice(),
+        entries: job.heights.as_slice(),
     };
     let mut setup = OpenSetup::new(part);
     add_all(&mut setup, job.clamps.as_slice());

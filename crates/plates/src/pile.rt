@@ -19,7 +19,7 @@ pub fn worked_pile() -> Option<Sample>
     };
     let below = Raster {
         grid,
-        heights: &[0],
+        entries: &[0],
     };
     let mut setup = OpenSetup::new(Allowance { below, stock });
     let clamp = Clamp {

@@ -85,7 +85,7 @@ pub(crate) fn answer(numbers: &[i32]) -> Answer {
     let [count, words @ ..] = numbers else {
         return Answer::Unasked;
     };
-    let part = Raster { grid, heights: &[] };
+    let part = Raster { grid, entries: &[] };
     let mut setup = OpenSetup::new(part);
     for _ in 0..*count {
         let _ = setup.add(clamp([1, 1, 2, 2, 3]));

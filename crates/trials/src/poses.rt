@@ -129,7 +129,7 @@ fn clamped(pitch: i32, long: i32, column: i32, row: i32, tip: i32) -> Answer {
     };
     let part = Raster {
         grid,
-        heights: &[0, 0, 0, 100, 0, 0, 50, 0, 0, 0, 0, 0, 0, 0, -20],
+        entries: &[0, 0, 0, 100, 0, 0, 50, 0, 0, 0, 0, 0, 0, 0, -20],
     };
     let mut setup = OpenSetup::new(part);
     let _ = setup.add(clamp([0, 2, 1, 2, 100]));
@@ -145,7 +145,7 @@ fn single(height: i32, tip: i32) -> Answer {
     };
     let part = Raster {
         grid,
-        heights: &[height],
+        entries: &[height],
     };
     posed(&OpenSetup::new(part).lock(), 100, 1, 0, 0, tip)
 }

@@ -54,8 +54,8 @@ pub(crate) fn answer(numbers: &[i32]) -> Answer {
 }
 
 // What the check of a raster answers.
-fn checked(grid: Grid, heights: &[i32]) -> Answer {
-    let raster = Raster { grid, heights };
+fn checked(grid: Grid, entries: &[i32]) -> Answer {
+    let raster = Raster { grid, entries };
     match raster.check() {
         Ok(()) => Answer::Taken,
         Err(fault) => Answer::Said(Line::Refused { number: 1, fault }),
@@ -66,7 +66,7 @@ fn checked(grid: Grid, heights: &[i32]) -> Answer {
 fn at(grid: Grid, column: usize, row: usize) -> Answer {
     let raster = Raster {
         grid,
-        heights: &[-500000, 500001, -500001, 7, i32::MIN],
+        entries: &[-500000, 500001, -500001, 7, i32::MIN],
     };
     sampled(raster.sample(Node { column, row }))
 }

@@ -23,7 +23,7 @@ pub(crate) fn print(rt: &HostRuntime) -> anyhow::Result<()> {
 fn carry_out(rt: &HostRuntime, job: &Job) -> anyhow::Result<()> {
     let part = Raster {
         grid: job.grid,
-        heights: job.heights.as_slice(),
+        entries: job.heights.as_slice(),
     };
     let mut setup = OpenSetup::new(part);
     for clamp in job.clamps.as_slice() {

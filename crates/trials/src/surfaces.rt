@@ -101,7 +101,7 @@ pub(crate) fn answer(numbers: &[i32]) -> Answer {
     };
     let part = Raster {
         grid,
-        heights: &[0, 0, 0, 100, 0, 0, -1, 1, 500001],
+        entries: &[0, 0, 0, 100, 0, 0, -1, 1, 500001],
     };
     let mut setup = OpenSetup::new(part);
     let _ = setup.add(clamp([0, 0, 2, 1, *a]));

@@ -66,7 +66,7 @@ pub(crate) fn answer(numbers: &[i32]) -> Answer {
     };
     let part = Raster {
         grid,
-        heights: &[0, 0, 0, 100, 0],
+        entries: &[0, 0, 0, 100, 0],
     };
     let mut block = [0; 5];
     let _ = milling::new(&grid, &mut block);
