@@ -13,7 +13,7 @@ fn half(p: Point, q: Corner, r: Corner) -> u64
     product(p.x, q.at.y) + product(q.at.x, r.at.y) + product(r.at.x, p.y)
 }
 
-// The product of two numbers of a plan.
+// Multiplies two numbers of a plan.
 fn product(x: u32, y: u32) -> u64
     ensures { result ≡ x * y }
 {

@@ -7,9 +7,10 @@ use zmap::{Class, Sample};
 
 // An entry of a chart tells a sample.
 pub trait Entry: Copy {
+    // The sample that the entry tells.
     ghost told: { Self → Told };
 
-    // The height and class that the entry tells.
+    // Tells the height and class of the entry.
     fn told(self) -> Sample
         ensures { result ≡ told self };
 }

@@ -8,7 +8,7 @@ use Rattle.cutters.specs.BallsLemmas.{ball_root, ball_unique, root_more, root_wh
 use Rattle.cutters.specs.ConesLemmas.{cone_level, cone_root, cone_unique}
 use Rattle.facets.specs.Drawn.{facet_at}
 use Rattle.facets.specs.Shoelaces.{height_at, mean, plane_at, swept}
-use Rattle.facets.specs.Vertices.{corner_of}
+use Rattle.facets.specs.Corners.{corner_of}
 use Rattle.setups.specs.Layers.{layered}
 use Rattle.setups.specs.Stocks.{stocked_sample}
 use Rattle.setups.specs.Surfaces.{setup_sample}

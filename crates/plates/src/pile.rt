@@ -11,15 +11,11 @@ pub fn worked_pile() -> Option<Sample>
     ensures value { result ≡ Some piled }
     ensures plates { Plates }
 {
-    let Ok(grid) = Grid::new(1, 1, 100) else {
-        return None;
-    };
-    let Ok(stock) = Stock::new(50) else {
-        return None;
-    };
+    let grid = Grid::new(1, 1, 100).ok()?;
+    let stock = Stock::new(50).ok()?;
     let below = Raster {
         grid,
-        heights: &[0],
+        entries: &[0],
     };
     let mut setup = OpenSetup::new(Allowance { below, stock });
     let clamp = Clamp {
@@ -27,8 +23,6 @@ pub fn worked_pile() -> Option<Sample>
         rows: Span { first: 0, last: 0 },
         height: 50,
     };
-    let Ok(_) = setup.add(clamp) else {
-        return None;
-    };
+    setup.add(clamp).ok()?;
     setup.lock().sample(Node { column: 0, row: 0 })
 }

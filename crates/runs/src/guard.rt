@@ -14,12 +14,12 @@ use zmap::Field;
 pub(crate) fn locked(job: &Job) -> Setup<Raster<'_>>
     requires { Allowed (told job.now) }
     ensures grid { result.below.grid ≡ job.now.grid }
-    ensures heights { result.below.heights.now ≡ job.now.heights.items }
+    ensures heights { result.below.entries.now ≡ job.now.heights.items }
     ensures clamps { clamps_of result.clamps ≡ job.now.clamps.items }
 {
     let mut setup = OpenSetup::new(Raster {
         grid: job.grid,
-        heights: job.heights.as_slice(),
+        entries: job.heights.as_slice(),
     });
     add_all(&mut setup, job.clamps.as_slice());
     setup.lock()

@@ -95,7 +95,7 @@ pub(crate) fn raised([count, number, height]: [i32; 3]) -> Taking {
 fn opened(count: i32) -> Result<OpenSetup<Raster<'static>>, Fault> {
     let part = Raster {
         grid: Grid::new(5, 4, 100)?,
-        heights: &[],
+        entries: &[],
     };
     let mut setup = OpenSetup::new(part);
     for _ in 0..count {

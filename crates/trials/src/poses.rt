@@ -134,7 +134,7 @@ impl fmt::Display for Posed {
 pub(crate) fn clamped([pitch, long, column, row, tip]: [i32; 5]) -> Result<Posed, Fault> {
     let part = Raster {
         grid: Grid::new(5, 3, 100)?,
-        heights: &[0, 0, 0, 100, 0, 0, 50, 0, 0, 0, 0, 0, 0, 0, -20],
+        entries: &[0, 0, 0, 100, 0, 0, 50, 0, 0, 0, 0, 0, 0, 0, -20],
     };
     let mut setup = OpenSetup::new(part);
     setup.add(clamp([0, 2, 1, 2, 100]))?;
@@ -154,7 +154,7 @@ pub(crate) fn clamped([pitch, long, column, row, tip]: [i32; 5]) -> Result<Posed
 pub(crate) fn single([height, tip]: [i32; 2]) -> Result<Posed, Fault> {
     let part = Raster {
         grid: Grid::new(1, 1, 100)?,
-        heights: &[height],
+        entries: &[height],
     };
     let at = Spot {
         column: 0,

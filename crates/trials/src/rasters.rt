@@ -43,9 +43,9 @@ pub(crate) const NODES: [[i32; 2]; 12] = [
 ];
 
 // What the check of a raster of these heights answers.
-pub(crate) fn checked(heights: &[i32]) -> Result<Outcome<Taken, Line>, Fault> {
+pub(crate) fn checked(entries: &[i32]) -> Result<Outcome<Taken, Line>, Fault> {
     let grid = Grid::new(3, 2, 100)?;
-    let outcome = Raster { grid, heights }.check();
+    let outcome = Raster { grid, entries }.check();
     Ok(Outcome(
         outcome.map(|()| Taken).map_err(|fault| Line::Move {
             number: 1,
@@ -58,7 +58,7 @@ pub(crate) fn checked(heights: &[i32]) -> Result<Outcome<Taken, Line>, Fault> {
 pub(crate) fn sampled([column, row]: [i32; 2]) -> Result<Perhaps<Told>, Fault> {
     let raster = Raster {
         grid: Grid::new(3, 2, 100)?,
-        heights: &[-500000, 500001, -500001, 7, i32::MIN],
+        entries: &[-500000, 500001, -500001, 7, i32::MIN],
     };
     let n = Node {
         column: index(column),

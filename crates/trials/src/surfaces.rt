@@ -97,7 +97,7 @@ pub(crate) fn answer(
 ) -> Result<Perhaps<Told>, Fault> {
     let part = Raster {
         grid: Grid::new(5, 2, 100)?,
-        heights: &[0, 0, 0, 100, 0, 0, -1, 1, 500001],
+        entries: &[0, 0, 0, 100, 0, 0, -1, 1, 500001],
     };
     let mut setup = OpenSetup::new(part);
     setup.add(clamp([0, 0, 2, 1, a]))?;

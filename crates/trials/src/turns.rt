@@ -77,7 +77,7 @@ fn turns(block: &mut [i32], count: i32) -> Result<Option<Line>, Fault> {
     let grid = Grid::new(5, 1, 100)?;
     let part = Raster {
         grid,
-        heights: &[0, 0, 0, 100, 0],
+        entries: &[0, 0, 0, 100, 0],
     };
     let mut setup = OpenSetup::new(part);
     setup.add(clamp([2, 0, 2, 0, 50]))?;
