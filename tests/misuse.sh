@@ -26,14 +26,14 @@ program() { # NAME OLD NEW
 use cutters::Cutter;
 use milling::pose;
 use setups::{Clamp, OpenSetup};
-use zmap::Field;
+use zmap::{Field, Spot};
 
 pub fn cut<F: Field + Drop, C: Cutter>(field: F, clamp: Clamp, cutter: &C, block: &mut [i32]) -> bool {
     let mut open = OpenSetup::new(field);
     let added = open.add(clamp).is_ok();
     let guard = open.lock();
     let again = added;
-    let cut = pose(&guard, cutter, block, 0, 0, 0).is_ok();
+    let cut = pose(&guard, cutter, block, Spot { column: 0, row: 0, tip: 0 }).is_ok();
     again && cut
 }'
     case $text in *"$2"*) ;; *) exit 2 ;; esac

@@ -11,7 +11,7 @@ use cutters::Cutter;
 use lines::Line;
 use milling::pose;
 use setups::{Clamp, OpenSetup, Setup, Span};
-use zmap::{Fault, Field, Grid};
+use zmap::{Fault, Field, Grid, Spot};
 
 // The poses of the trial in their order: a column, a row and a tip in µm.
 const POSES: [(i32, i32, i32); 12] = [
@@ -40,7 +40,7 @@ const POSES: [(i32, i32, i32); 12] = [
 
 // Makes the ramp, its set-up, a new block and the hook, and prints what came of the poses.
 pub(crate) fn print(rt: &HostRuntime) -> anyhow::Result<()> {
-    let grid = Grid::new(4, 3, 100).ok().context("no grid")?;
+    let grid = Grid::new(4, 3, 100)?;
     let ramp = Ramp::new(grid, 499400, 250).context("no ramp")?;
     let low = Clamp {
         columns: Span { first: 0, last: 1 },
@@ -52,9 +52,9 @@ pub(crate) fn print(rt: &HostRuntime) -> anyhow::Result<()> {
         rows: Span { first: 0, last: 0 },
         height: 499950,
     };
-    let guard = clamped(ramp, low, high, 499700).ok().context("no set-up")?;
+    let guard = clamped(ramp, low, high, 499700)?;
     let mut block = [0; 12];
-    milling::new(&grid, &mut block).ok().context("no block")?;
+    milling::new(&grid, &mut block)?;
     let hook = Hook { pitch: grid.pitch };
     cut_all(rt, &guard, &hook, &mut block)?;
     for row in block.chunks(4) {
@@ -88,7 +88,10 @@ fn cut_all<F: Field, C: Cutter>(
     block: &mut [i32],
 ) -> anyhow::Result<()> {
     for (i, &(column, row, tip)) in POSES.iter().enumerate() {
-        let line = Line::of_move(i + 1, pose(guard, cutter, block, column, row, tip));
+        let line = Line::Move {
+            number: i + 1,
+            answer: pose(guard, cutter, block, Spot { column, row, tip }),
+        };
         println!(rt; "{line}")?;
     }
     Ok(())

@@ -140,14 +140,8 @@ pub(crate) fn clamped([pitch, long, column, row, tip]: [i32; 5]) -> Result<Posed
     setup.add(clamp([0, 2, 1, 2, 100]))?;
     setup.add(clamp([1, 0, 1, 0, 100]))?;
     setup.add(clamp([4, 0, 4, 0, 0]))?;
-    cut_by(
-        &setup.lock(),
-        Flat::new(pitch, 100)?,
-        long,
-        column,
-        row,
-        tip,
-    )
+    let at = Spot { column, row, tip };
+    cut_by(&setup.lock(), Flat::new(pitch, 100)?, long, at)
 }
 
 // The line of a pose over one sample of the height.
