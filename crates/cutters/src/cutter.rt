@@ -18,12 +18,14 @@ pub trait Cutter {
     // The height of the underside above the tip, in µm, at each offset that is covered.
     ghost shape: { Self → Profile };
 
+    // Tells the pitch that the profile is drawn for.
     fn pitch(&self) -> Pitch
         ensures { result.microns ≡ spacing self.now };
 
-    // The height of the underside above the tip, or nothing where the offset is not covered.
+    // Tells the height of the underside above the tip, or nothing where the offset is not covered.
     fn profile(&self, o: Offset) -> Option<u32>
         ensures { result ≡ shape self.now o };
 
+    // The laws of cutters, which the shape keeps.
     ghost lawful: { (t : Self) → Lawful REACH (shape t) };
 }

@@ -8,6 +8,6 @@ mod finding;
 pub(crate) struct Place {
     pub(crate) row: usize,
     pub(crate) column: usize,
-    ghost below: { row < 15 },
-    ghost left: { column < 15 },
+    ghost row_in: { row < 15 },
+    ghost column_in: { column < 15 },
 }

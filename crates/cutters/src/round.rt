@@ -3,7 +3,7 @@ use crate::{Ball, Cone, Flat};
 
 mod cutting;
 
-// A flat cutter, a cone or a ball.
+// A flat cutter, a cone or a ball; each kind is a type of its own, so that it stands behind the interface by itself too.
 #[derive(Clone, Copy)]
 pub enum RoundTool {
     Flat(Flat),

@@ -6,7 +6,7 @@ use crate::{Ball, Disc};
 use zmap::Fault;
 
 impl Ball {
-    // A ball of such a pitch and radius, or the first refusal of the two.
+    // Makes a ball of such a pitch and radius, or tells the first refusal of the two.
     pub fn new(pitch: i32, radius: i32) -> Result<Ball, Fault>
         ensures accepts { MatchResult result (λ t. ball_fault pitch radius ≡ None) (λ e. ball_fault pitch radius ≡ Some e) }
         ensures holds { IfOk result (λ t. (pos t.disc.pitch.microns ≡ pitch) × (pos t.disc.radius ≡ radius)) }

@@ -5,7 +5,7 @@ ghost use Rattle.cutters.specs.Balls.{BallStands, RootUp};
 use crate::Ball;
 
 impl Ball {
-    // The height where the square of the distance is so many µm².
+    // Tells the height where the square of the distance is so many µm².
     #[tactic(auto, using(crate::specs::BallsLemmas::root_under, crate::specs::BallsLemmas::ball_root))]
     pub(crate) fn height(&self, square: u32) -> u32
         requires { square ≤ self.now.disc.radius * self.now.disc.radius }
@@ -16,7 +16,7 @@ impl Ball {
     }
 }
 
-// The root of a number, rounded up.
+// Takes the root of a number, rounded up.
 #[tactic(auto, using(crate::specs::BallsLemmas::root_whole, crate::specs::BallsLemmas::root_more))]
 fn root_up(n: u32) -> u32
     ensures { RootUp n result }

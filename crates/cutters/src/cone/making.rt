@@ -7,7 +7,7 @@ use crate::{Cone, Disc};
 use zmap::Fault;
 
 impl Cone {
-    // A cone of such a pitch, radius, tip radius and rise, or the first refusal of the four.
+    // Makes a cone of such a pitch, radius, tip radius and rise, or tells the first refusal of the four.
     pub fn new(pitch: i32, radius: i32, tip: i32, rise: i32) -> Result<Cone, Fault>
         ensures accepts { MatchResult result (λ t. cone_fault pitch radius tip rise ≡ None) (λ e. cone_fault pitch radius tip rise ≡ Some e) }
         ensures holds { IfOk result (λ t. (pos t.disc.pitch.microns ≡ pitch) × (pos t.disc.radius ≡ radius) × (pos t.tip ≡ tip) × (pos t.rise ≡ rise)) }

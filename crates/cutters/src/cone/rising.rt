@@ -5,7 +5,7 @@ ghost use Rattle.cutters.specs.Cones.{ConeStands};
 use crate::Cone;
 
 impl Cone {
-    // The height where the square of the distance is so many µm².
+    // Tells the height where the square of the distance is so many µm².
     #[tactic(auto, using(crate::specs::ConesLemmas::cone_rising))]
     pub(crate) fn height(&self, square: u32) -> u32
         requires { square ≤ self.now.disc.radius * self.now.disc.radius }

@@ -5,7 +5,7 @@ use crate::Disc;
 use zmap::Offset;
 
 impl Disc {
-    // The square of the distance to the offset, in µm², or nothing where the disc does not cover it.
+    // Tells the square of the distance to the offset, in µm², or nothing where the disc does not cover it.
     #[tactic(auto, using(crate::specs::DiscsLemmas::disc_squares))]
     pub(crate) fn square_at(&self, o: Offset) -> Option<u32>
         ensures { Squared self.now.pitch.microns self.now.radius o result }

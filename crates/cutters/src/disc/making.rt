@@ -7,7 +7,7 @@ use crate::amount::up_to;
 use zmap::{Fault, Pitch};
 
 impl Disc {
-    // A disc of such a pitch and radius, or the first refusal of the two.
+    // Makes a disc of such a pitch and radius, or tells the first refusal of the two.
     pub(crate) fn new(pitch: i32, radius: i32) -> Result<Disc, Fault>
         ensures accepts { MatchResult result (λ d. round_fault pitch radius ≡ None) (λ e. round_fault pitch radius ≡ Some e) }
         ensures holds { IfOk result (λ d. (pos d.pitch.microns ≡ pitch) × (pos d.radius ≡ radius)) }

@@ -6,7 +6,7 @@ use crate::{Disc, Flat};
 use zmap::Fault;
 
 impl Flat {
-    // A flat cutter of such a pitch and radius, or the first refusal of the two.
+    // Makes a flat cutter of such a pitch and radius, or tells the first refusal of the two.
     pub fn new(pitch: i32, radius: i32) -> Result<Flat, Fault>
         ensures accepts { MatchResult result (λ t. flat_fault pitch radius ≡ None) (λ e. flat_fault pitch radius ≡ Some e) }
         ensures holds { IfOk result (λ t. (pos t.disc.pitch.microns ≡ pitch) × (pos t.disc.radius ≡ radius)) }

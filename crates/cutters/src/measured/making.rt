@@ -8,7 +8,7 @@ use crate::table::Table;
 use zmap::{Fault, Offset, Pitch};
 
 impl Measured {
-    // A measured cutter of the pitch, with 0 everywhere.
+    // Makes a measured cutter of the pitch, with 0 everywhere.
     pub fn new(pitch: Pitch) -> Measured
         ensures { (result.pitch ≡ pitch) × Blank result.table }
     {
@@ -18,7 +18,7 @@ impl Measured {
         }
     }
 
-    // The height as the entry at (dx, dy), or -1 for nothing there; or the first refusal, and the cutter as it was.
+    // Writes the height as the entry at (dx, dy), -1 for nothing there; or tells the first refusal, and leaves the cutter as it was.
     pub fn write(&mut self, dx: i32, dy: i32, height: i32) -> Result<(), Fault>
         ensures accepts { MatchResult result (λ _. entry_fault dx dy height ≡ None) (λ e. entry_fault dx dy height ≡ Some e) }
         ensures table { MatchResult result (λ _. Written self.old.table (record { dx = dx; dy = dy }) height self.new.table) (λ e. self.new.table ≡ self.old.table) }

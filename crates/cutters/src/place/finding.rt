@@ -6,7 +6,7 @@ use crate::place::Place;
 use zmap::Offset;
 
 impl Place {
-    // The place of the entry at the offset, or nothing past seven columns and rows.
+    // Finds the place of the entry at the offset, or nothing past seven columns and rows.
     pub(crate) fn of(o: Offset) -> Option<Place>
         ensures { MatchOption result (has_entry o ≡ false) (λ p. (has_entry o ≡ true) × (p.row ≡ index o.dy) × (p.column ≡ index o.dx)) }
     {
@@ -16,7 +16,7 @@ impl Place {
     }
 }
 
-// The index of the row or column that is so far away, or nothing past seven.
+// Counts a row or a column from seven before the tip on, or answers nothing past seven.
 fn index_of(away: i32) -> Option<usize>
     ensures { MatchOption result (is_close away ≡ false) (λ i. (is_close away ≡ true) × (i ≡ index away) × (i < 15)) }
 {

@@ -8,7 +8,7 @@ use crate::table::Table;
 use zmap::Offset;
 
 impl Table {
-    // The height at the offset, or nothing where that is not covered.
+    // Tells the height at the offset, or nothing where that is not covered.
     #[tactic(auto, using(crate::specs::TablesLemmas::entry_drawn))]
     pub(crate) fn read(&self, o: Offset) -> Option<u32>
         ensures value { result ≡ measured_shape self.now o }
@@ -17,7 +17,7 @@ impl Table {
         told(self.entry(o)?)
     }
 
-    // The entry at the offset, or nothing past seven columns and rows.
+    // Reads the entry at the offset, or nothing past seven columns and rows.
     #[tactic(auto, using(crate::specs::TablesLemmas::entry_read))]
     fn entry(&self, o: Offset) -> Option<i32>
         ensures { MatchOption result (has_entry o ≡ false) (λ z. (has_entry o ≡ true) × (z ≡ entry_at self.now o)) }
@@ -27,7 +27,7 @@ impl Table {
     }
 }
 
-// The height that an entry tells, if any.
+// Takes an entry as a height, if it is one.
 fn told(entry: i32) -> Option<u32>
     ensures { result ≡ height_of entry }
 {

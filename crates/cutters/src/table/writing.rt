@@ -9,7 +9,7 @@ use crate::table::Table;
 use zmap::{Fault, Offset};
 
 impl Table {
-    // A table with 0 everywhere.
+    // Makes a table with 0 everywhere.
     pub(crate) fn new() -> Table
         ensures { Blank result }
     {
@@ -18,7 +18,7 @@ impl Table {
         }
     }
 
-    // The height as the entry at the offset; or the first refusal, and the table as it was.
+    // Writes the height as the entry at the offset; or tells the first refusal, and leaves the table as it was.
     pub(crate) fn write(&mut self, o: Offset, height: i32) -> Result<(), Fault>
         ensures accepts { MatchResult result (λ _. entry_fault o.dx o.dy height ≡ None) (λ e. entry_fault o.dx o.dy height ≡ Some e) }
         ensures table { MatchResult result (λ _. Written self.old o height self.new) (λ e. self.new ≡ self.old) }
@@ -32,7 +32,7 @@ impl Table {
     }
 }
 
-// Whether the height may be the entry at the offset, where the tip takes only 0.
+// Tells whether the height may be the entry at the offset: the tip takes only 0.
 fn may_stand(o: Offset, height: i32) -> bool
     ensures { result ≡ is_allowed o.dx o.dy height }
 {
