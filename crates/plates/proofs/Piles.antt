@@ -1,30 +1,15 @@
 -- The worked pile, from what its calls answer. Assumes nothing.
-use Rattle.std.proofs.Common.{◌≡◌, ℕ, ◌<◌, List, [], ◌∷◌, length, pos, Some, None, Option, ap, ◌∙◌, arith, MatchOption}
-use Rattle.std.proofs.lemmas.Int.{ints}
+use Rattle.std.proofs.Common.{◌≡◌, List, [], ◌∷◌, pos, Some, None, Option, ap, ◌∙◌, arith, MatchOption}
 use Rattle.fields.specs.Charts.{chart_at, told_height}
 use Rattle.fields.specs.Rasters.{raster_sample}
-use Rattle.setups.proofs.Entries.{adding_none}
-use Rattle.setups.specs.Clamps.{adding_fault, clamp_fault}
 use Rattle.setups.specs.Stocks.{stocked_sample}
 use Rattle.setups.specs.Surfaces.{setup_sample}
 use Rattle.setups.specs.declared.clamp.Clamp.{Clamp}
 use Rattle.zmap.specs.Maps.{On, place}
-use Rattle.zmap.specs.declared.fault.Fault.{Fault}
 use Rattle.zmap.specs.declared.grid.Grid.{Grid}
 use Rattle.zmap.specs.declared.sample.Sample.{Sample}
 use Rattle.plates.specs.Plates.{clamp, corner, level_part, piled}
 use Rattle.plates.proofs.Values.{plates}
-
--- on a map of one sample the clamp is not refused
-pub taken : (g : Grid) (ks : List Clamp) (e : Fault) → pos g.columns ≡ pos 1 → pos g.rows ≡ pos 1 → ks ≡ [] → adding_fault g ks clamp ≡ Some e → ⊥
-taken g ks e wide deep none refused =
-    let c : g.columns ≡ 1 = omega (arith, ints) in
-    let r : g.rows ≡ 1 = omega (arith, ints) in
-    let fits : clamp_fault g.columns g.rows clamp ≡ None = ap (λ x. clamp_fault x g.rows clamp) c ∙ ap (λ x. clamp_fault 1 x clamp) r in
-    let long : length ks < 16 = omega (arith, ap length none) in
-    let whole = adding_none g ks clamp fits long in
-    let z : ◌≡◌ {A = ℕ} 0 1 = cc in
-    omega arith
 
 -- the part of one sample
 pub part_told : (g : Grid) → raster_sample g (pos 0 ∷ []) corner ≡ level_part

@@ -17,12 +17,8 @@ pub fn worked_profiles() -> [Option<u32>; 7]
     ensures values { result ≡ worked }
     ensures plates { Plates }
 {
-    let Ok(ball) = Ball::new(100, 500) else {
-        return [None; 7];
-    };
-    let Ok(cone) = Cone::new(100, 500, 100, 1000) else {
-        return [None; 7];
-    };
+    let ball = Ball::new(100, 500).unwrap();
+    let cone = Cone::new(100, 500, 100, 1000).unwrap();
     let beside = ball.profile(Offset { dx: 1, dy: 0 });
     let second = ball.profile(Offset { dx: 2, dy: 0 });
     let rim = ball.profile(Offset { dx: 3, dy: 4 });

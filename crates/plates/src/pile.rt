@@ -11,8 +11,8 @@ pub fn worked_pile() -> Option<Sample>
     ensures value { result ≡ Some piled }
     ensures plates { Plates }
 {
-    let grid = Grid::new(1, 1, 100).ok()?;
-    let stock = Stock::new(50).ok()?;
+    let grid = Grid::new(1, 1, 100).unwrap();
+    let stock = Stock::new(50).unwrap();
     let below = Raster {
         grid,
         entries: &[0],
@@ -23,6 +23,6 @@ pub fn worked_pile() -> Option<Sample>
         rows: Span { first: 0, last: 0 },
         height: 50,
     };
-    setup.add(clamp).ok()?;
+    setup.add(clamp).unwrap();
     setup.lock().sample(Node { column: 0, row: 0 })
 }

@@ -4,8 +4,10 @@ use Rattle.plates.proofs.worked_profiles.Goals as goal
 
 pub returns : goal.returns
 returns c =
-    let ball = c.in-Ok.ensures.holds in
-    let cone = c.in-Ok-new.ensures.holds in
+    let holds = c.new.ensures.holds in
+    let ball = simp c.unwrap-ball.ensures at holds in
+    let stands = c.new-2.ensures.holds in
+    let cone = simp c.unwrap-cone.ensures at stands in
     let beside = ball_told _ _ _ _ _ ball c.profile-beside.ensures.value plates.beside in
     let second = ball_told _ _ _ _ _ ball c.profile-second.ensures.value plates.second in
     let rim = ball_told _ _ _ _ _ ball c.profile-rim.ensures.value plates.rim in
