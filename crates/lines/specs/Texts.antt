@@ -1,5 +1,5 @@
 -- The text of each line, as bytes. Assumes nothing.
-use Rattle.std.specs.Prelude.{ℕ, List, [], ◌∷◌, ◌++◌, Ok, Err, codes, decimal}
+use Rattle.std.specs.Prelude.{ℕ, List, [], ◌∷◌, Ok, Err, codes, decimal}
 use Rattle.zmap.specs.Faults.{parts_of}
 use Rattle.zmap.specs.Texts.{contact_text, parts_words, spaced}
 use Rattle.jobs.specs.Texts.{bad_words}

@@ -14,11 +14,13 @@ impl fmt::Display for Line {
         match *self {
             Line::Move {
                 number,
-                answer: Ok(Removed {
-                    samples,
-                    loss,
-                    contact,
-                }),
+                answer: Ok(
+                    Removed {
+                        samples,
+                        loss,
+                        contact,
+                    },
+                ),
             } => write!(f, "{number} ok {samples} {loss} {contact}"),
             Line::Move {
                 number,

@@ -1,7 +1,6 @@
 // New blocks.
 ghost use Rattle.std.specs.Prelude.{◌≡◌, ℕ, ◌<◌, [], ◌∷◌, length, pos, MatchResult, slice_index_or};
 ghost use Rattle.zmap.specs.Limits.{ceiling};
-ghost use Rattle.zmap.specs.Maps.{size};
 ghost use Rattle.milling.specs.Checks.{Passed, Refused, whole_block};
 
 use zmap::heights::CEILING;

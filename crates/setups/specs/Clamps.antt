@@ -1,5 +1,5 @@
 -- When a clamp is refused. Assumes nothing.
-use Rattle.std.specs.Prelude.{◌≡◌, ℕ, Bool, cond, ◌&&◌, List, length, ℤ, pos, Some, None, Option, Result, MatchResult, int_le, int_lt, nat_lt}
+use Rattle.std.specs.Prelude.{ℕ, Bool, cond, ◌&&◌, List, length, ℤ, pos, Some, None, Option, int_le, int_lt, nat_lt}
 use Rattle.std.specs.List.{All}
 use Rattle.zmap.specs.Faults.{or_else}
 use Rattle.zmap.specs.Limits.{Height, is_height}

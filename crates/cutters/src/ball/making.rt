@@ -1,6 +1,5 @@
 // A ball out of plain numbers.
 ghost use Rattle.std.specs.Prelude.{◌≡◌, pos, IfOk, Some, None, MatchResult};
-ghost use Rattle.zmap.specs.Faults.{FaultIs};
 ghost use Rattle.cutters.specs.Making.{ball_fault};
 
 use crate::{Ball, Disc};

@@ -1,6 +1,5 @@
 // A cone out of plain numbers.
 ghost use Rattle.std.specs.Prelude.{◌≡◌, pos, IfOk, Some, None, MatchResult};
-ghost use Rattle.zmap.specs.Faults.{FaultIs};
 ghost use Rattle.cutters.specs.Making.{cone_fault};
 
 use crate::amount::up_to;

@@ -1,5 +1,5 @@
 // A measured cutter, entry by entry.
-ghost use Rattle.std.specs.Prelude.{◌≡◌, Some, None, MatchResult};
+ghost use Rattle.std.specs.Prelude.{◌≡◌, MatchResult};
 ghost use Rattle.zmap.specs.Faults.{FaultIs};
 ghost use Rattle.cutters.specs.Entries.{entry_fault};
 ghost use Rattle.cutters.specs.Tables.{Blank, Written};

@@ -1,5 +1,5 @@
 // New tables, and entries written.
-ghost use Rattle.std.specs.Prelude.{◌≡◌, Some, None, MatchResult};
+ghost use Rattle.std.specs.Prelude.{◌≡◌, MatchResult};
 ghost use Rattle.zmap.specs.Faults.{FaultIs};
 ghost use Rattle.cutters.specs.Entries.{entry_fault, is_allowed};
 ghost use Rattle.cutters.specs.Tables.{Blank, Written};

@@ -1,5 +1,5 @@
 // Whether a raster is whole and its entries are heights.
-ghost use Rattle.std.specs.Prelude.{◌≡◌, MatchOption, MatchResult};
+ghost use Rattle.std.specs.Prelude.{MatchOption, MatchResult};
 ghost use Rattle.fields.specs.Rasters.{Whole, Flawed, AllHeights, FirstBad};
 
 use crate::Raster;

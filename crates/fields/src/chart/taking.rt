@@ -1,5 +1,5 @@
 // Every sample of a field, read once.
-ghost use Rattle.std.specs.Prelude.{◌≡◌, ◌<◌, MatchResult};
+ghost use Rattle.std.specs.Prelude.{◌<◌, MatchResult};
 ghost use Rattle.fields.specs.Surveys.{Surveyed, ToldAt, Unfit};
 ghost use Rattle.zmap.specs.Maps.{size};
 

@@ -1,5 +1,5 @@
 // A stock out of a plain number.
-ghost use Rattle.std.specs.Prelude.{◌≡◌, pos, Some, None, MatchResult, IfOk};
+ghost use Rattle.std.specs.Prelude.{◌≡◌, pos, IfOk};
 ghost use Rattle.zmap.specs.Faults.{FaultIs};
 ghost use Rattle.setups.specs.Stocks.{stock_fault};
 

@@ -1,5 +1,5 @@
 // A grid out of plain numbers.
-ghost use Rattle.std.specs.Prelude.{◌≡◌, pos, IfOk, Some, None, MatchResult};
+ghost use Rattle.std.specs.Prelude.{◌≡◌, pos, IfOk};
 ghost use Rattle.zmap.specs.Faults.{FaultIs, grid_fault};
 
 use crate::{Fault, Grid, Pitch};

@@ -1,5 +1,5 @@
 // A pitch out of a plain number.
-ghost use Rattle.std.specs.Prelude.{◌≡◌, pos, Some, None, MatchResult, IfOk};
+ghost use Rattle.std.specs.Prelude.{◌≡◌, pos, IfOk};
 ghost use Rattle.zmap.specs.Faults.{FaultIs, pitch_fault};
 
 use crate::{Fault, Pitch};
