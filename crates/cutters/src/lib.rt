@@ -1,7 +1,6 @@
 // Cutters behind one interface, and the order in which their offsets are scanned.
 #![tactic(auto)]
 
-mod amount;
 mod ball;
 mod cone;
 mod cutter;

@@ -5,7 +5,7 @@ mod making;
 
 // Room for N items, of which there are none yet.
 #[derive(Drop)]
-pub(crate) struct Empty<T, const N: usize> {
+pub struct Empty<T, const N: usize> {
     pub room: Vec<T>,
     ghost bare: { room.items ≡ [] },
     ghost wide: { N ≤ vec_capacity room },

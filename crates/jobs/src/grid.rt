@@ -27,7 +27,7 @@ impl Kind for Grids {
     }
 }
 
-// Takes the words columns, rows and pitch as a grid.
+// Takes the words columns, rows and pitch as a grid; no TryFrom, since only a job has at most 4,096 samples.
 fn to_grid(words: [i32; 3]) -> Result<Grid, Fault>
     ensures { MatchResult result (λ g. extent_of words ≡ Ok (extent g)) (λ e. extent_of words ≡ Err e) }
 {

@@ -22,7 +22,8 @@ pub(crate) trait Kind {
     // What the words make.
     ghost item: { Self → List ℤ → Outcome Told Refusal };
 
-    // Reads the item of the next record.
+    // Reads the item of the next record. Each kind asks for its words itself: with the width as a const parameter of the trait, the
+    // clauses of an implementation at a literal width get no proof.
     fn read(&self, input: &mut Reader<'_>) -> Result<Self::Item, Fault>
         ensures gives { Gives told result input.new.rest.now (one_record width (item self.now) input.old.rest.now) }
         ensures takes { OnOk result (length input.new.rest.now + 4 * width ≡ length input.old.rest.now) };

@@ -17,6 +17,7 @@ mod store;
 mod whole;
 
 pub use bad::Bad;
+pub use empty::Empty;
 pub use job::{Job, Move};
 pub use section::Section;
 pub use store::Store;

@@ -35,6 +35,7 @@ fn to_move(words: [i32; 7]) -> Result<Move, Fault>
     ensures { result ≡ move_of words }
 {
     let [kind, column, row, tip, _, _, _] = words;
+    // One kind so far, for which an enum of its own would be no plainer.
     match kind {
         1 => Ok(Move::Pose(Spot { column, row, tip })),
         _ => Err(Fault::Kind),

@@ -7,9 +7,9 @@ use std::alloc::{AllocError, Global};
 // Room for the largest job: 4,096 heights, 16 clamps, and the moves of 28 bytes each that 65,536 bytes hold.
 #[derive(Drop)]
 pub struct Store {
-    pub(crate) heights: Empty<i32, 4096>,
-    pub(crate) clamps: Empty<Clamp, 16>,
-    pub(crate) moves: Empty<Move, 2340>,
+    pub heights: Empty<i32, 4096>,
+    pub clamps: Empty<Clamp, 16>,
+    pub moves: Empty<Move, 2340>,
 }
 
 impl Store {

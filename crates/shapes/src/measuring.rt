@@ -1,7 +1,7 @@
 // A measured cutter, entry by entry.
 use crate::rounds::show;
 use cutters::Measured;
-use zmap::Pitch;
+use zmap::{Offset, Pitch};
 
 // The entries that are written: dx, dy and the height.
 const ENTRIES: [[i32; 3]; 22] = [
@@ -35,7 +35,7 @@ pub(crate) fn print(rt: &HostRuntime) -> anyhow::Result<()> {
     println!(rt; "measured, new")?;
     show(rt, &cutter, -8, 8)?;
     for [dx, dy, height] in ENTRIES {
-        match cutter.write(dx, dy, height) {
+        match cutter.write(Offset { dx, dy }, height) {
             Ok(()) => println!(rt; "entry {dx} {dy} {height}: taken")?,
             Err(fault) => {
                 let number = fault.parts().number;

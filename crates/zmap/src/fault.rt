@@ -76,7 +76,7 @@ pub enum Fault {
     Over,
 }
 
-// What a fault says as five values; what its case does not name is 0, or clear.
+// What a fault says as five values; what its case does not name is 0, or clear. The numbers are those that are printed.
 #[derive(Clone, Copy)]
 pub struct Parts {
     pub number: u32,

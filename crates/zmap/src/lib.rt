@@ -1,4 +1,4 @@
-// Heights on a grid: pitch, grid, nodes and offsets, classes and contacts, faults, and the interface of fields.
+// Heights on a grid: pitch, grid, nodes and offsets, ranges, classes and contacts, faults, and the interface of fields.
 #![tactic(auto)]
 
 mod class;
@@ -9,6 +9,7 @@ pub mod heights;
 mod node;
 mod order;
 mod pitch;
+mod ranges;
 mod sample;
 
 pub use class::{Class, Contact};
@@ -18,4 +19,5 @@ pub use grid::Grid;
 pub use node::{Node, Offset, Spot};
 pub use order::greater;
 pub use pitch::Pitch;
+pub use ranges::within;
 pub use sample::Sample;

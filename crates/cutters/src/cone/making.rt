@@ -2,9 +2,8 @@
 ghost use Rattle.std.specs.Prelude.{◌≡◌, pos, IfOk, Some, None, MatchResult};
 ghost use Rattle.cutters.specs.Making.{cone_fault};
 
-use crate::amount::up_to;
 use crate::{Cone, Disc};
-use zmap::Fault;
+use zmap::{Fault, within};
 
 impl Cone {
     // Makes a cone of such a pitch, radius, tip radius and rise, or tells the first refusal of the four.
@@ -13,8 +12,8 @@ impl Cone {
         ensures holds { IfOk result (λ t. (pos t.disc.pitch.microns ≡ pitch) × (pos t.disc.radius ≡ radius) × (pos t.tip ≡ tip) × (pos t.rise ≡ rise)) }
     {
         let disc = Disc::new(pitch, radius)?;
-        let tip = up_to(disc.radius, tip).ok_or(Fault::TipRadius)?;
-        let rise = up_to(10000, rise).ok_or(Fault::Rise)?;
+        let tip = within(0, disc.radius, tip).ok_or(Fault::TipRadius)?;
+        let rise = within(0, 10000, rise).ok_or(Fault::Rise)?;
         Ok(Cone { disc, tip, rise })
     }
 }

@@ -4,8 +4,7 @@ ghost use Rattle.zmap.specs.Faults.{FaultIs};
 ghost use Rattle.cutters.specs.Making.{round_fault};
 
 use crate::Disc;
-use crate::amount::up_to;
-use zmap::{Fault, Pitch};
+use zmap::{Fault, Pitch, within};
 
 impl Disc {
     // Makes a disc of such a pitch and radius, or tells the first refusal of the two.
@@ -14,7 +13,7 @@ impl Disc {
         ensures holds { IfOk result (λ d. (pos d.pitch.microns ≡ pitch) × (pos d.radius ≡ radius)) }
     {
         let pitch = Pitch::new(pitch)?;
-        let radius = up_to(15999, radius)
+        let radius = within(0, 15999, radius)
             .filter(|r| *r < 16 * pitch.microns)
             .ok_or(Fault::Radius)?;
         Ok(Disc { pitch, radius })

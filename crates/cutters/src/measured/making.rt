@@ -19,12 +19,12 @@ impl Measured {
         }
     }
 
-    // Writes the height as the entry at (dx, dy), -1 for nothing there; or tells the first refusal, and leaves the cutter as it was.
-    pub fn write(&mut self, dx: i32, dy: i32, height: i32) -> Result<(), Fault>
-        ensures accepts { FaultIs result (entry_fault dx dy height) }
-        ensures table { MatchResult result (λ _. Written self.old.table (record { dx = dx; dy = dy }) height self.new.table) (λ e. self.new.table ≡ self.old.table) }
+    // Writes the height as the entry at the offset, -1 for nothing there; or tells the first refusal, and leaves the cutter as it was.
+    pub fn write(&mut self, o: Offset, height: i32) -> Result<(), Fault>
+        ensures accepts { FaultIs result (entry_fault o.dx o.dy height) }
+        ensures table { MatchResult result (λ _. Written self.old.table o height self.new.table) (λ e. self.new.table ≡ self.old.table) }
         ensures rest { self.new.pitch ≡ self.old.pitch }
     {
-        self.table.write(Offset { dx, dy }, height)
+        self.table.write(o, height)
     }
 }

@@ -14,6 +14,7 @@ impl Raster<'_> {
         if self.entries.len() != self.grid.samples() {
             return Err(Fault::RasterLength);
         }
+        // The refusal stands in plain sight, which it would not in a `map_or`.
         match first_bad(self.entries) {
             Some(i) => Err(Fault::RasterHeight(i)),
             None => Ok(()),

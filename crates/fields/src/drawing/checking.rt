@@ -13,6 +13,7 @@ impl Facets<'_> {
     pub fn check(&self) -> Result<(), Fault>
         ensures { MatchResult result (λ _. AllSound self.now.facets.now) (λ e. (i : ℕ) × (e ≡ fault.FacetVertex i) × FirstUnsound self.now.facets.now i) }
     {
+        // The refusal stands in plain sight, which it would not in a `map_or`.
         match first_unsound(self.facets) {
             Some(i) => Err(Fault::FacetVertex(i)),
             None => Ok(()),

@@ -4,7 +4,7 @@ ghost use Rattle.zmap.specs.Faults.{FaultIs};
 ghost use Rattle.setups.specs.Stocks.{stock_fault};
 
 use crate::Stock;
-use zmap::Fault;
+use zmap::{Fault, within};
 
 impl Stock {
     // Makes a stock of so many µm, or refuses where that is not 0 to 100,000.
@@ -12,11 +12,7 @@ impl Stock {
         ensures accepts { FaultIs result (stock_fault microns) }
         ensures holds { IfOk result (λ a. pos a.microns ≡ microns) }
     {
-        if microns < 0 || microns > 100000 {
-            return Err(Fault::Allowance);
-        }
-        Ok(Stock {
-            microns: microns as u32,
-        })
+        let microns = within(0, 100000, microns).ok_or(Fault::Allowance)?;
+        Ok(Stock { microns })
     }
 }

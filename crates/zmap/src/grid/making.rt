@@ -2,7 +2,7 @@
 ghost use Rattle.std.specs.Prelude.{◌≡◌, pos, IfOk};
 ghost use Rattle.zmap.specs.Faults.{FaultIs, grid_fault};
 
-use crate::{Fault, Grid, Pitch};
+use crate::{Fault, Grid, Pitch, within};
 
 impl Grid {
     // A grid of so many columns and rows and such a pitch, or the first refusal of the three.
@@ -10,16 +10,12 @@ impl Grid {
         ensures accepts { FaultIs result (grid_fault columns rows pitch) }
         ensures holds { IfOk result (λ g. (pos g.columns ≡ columns) × (pos g.rows ≡ rows) × (pos g.pitch.microns ≡ pitch)) }
     {
-        if columns < 1 || columns > 512 {
-            return Err(Fault::Columns);
-        }
-        if rows < 1 || rows > 512 {
-            return Err(Fault::Rows);
-        }
+        let columns = within(1, 512, columns).ok_or(Fault::Columns)? as usize;
+        let rows = within(1, 512, rows).ok_or(Fault::Rows)? as usize;
         let pitch = Pitch::new(pitch)?;
         Ok(Grid {
-            columns: columns as usize,
-            rows: rows as usize,
+            columns,
+            rows,
             pitch,
         })
     }

@@ -2,7 +2,7 @@
 ghost use Rattle.std.specs.Prelude.{◌≡◌, pos, IfOk};
 ghost use Rattle.zmap.specs.Faults.{FaultIs, pitch_fault};
 
-use crate::{Fault, Pitch};
+use crate::{Fault, Pitch, within};
 
 impl Pitch {
     // A pitch of so many µm, or a refusal where that is not 10 to 1,000.
@@ -10,11 +10,7 @@ impl Pitch {
         ensures accepts { FaultIs result (pitch_fault microns) }
         ensures holds { IfOk result (λ p. pos p.microns ≡ microns) }
     {
-        if microns < 10 || microns > 1000 {
-            return Err(Fault::Pitch);
-        }
-        Ok(Pitch {
-            microns: microns as u32,
-        })
+        let microns = within(10, 1000, microns).ok_or(Fault::Pitch)?;
+        Ok(Pitch { microns })
     }
 }
