@@ -6,7 +6,5 @@ ghost use Rattle.zmap.specs.Limits.{within};
 pub fn within(low: u32, high: u32, x: i32) -> Option<u32>
     ensures { MatchOption result (within (pos low) (pos high) x ≡ false) (λ n. (within (pos low) (pos high) x ≡ true) × (pos n ≡ x)) }
 {
-    u32::try_from(x)
-        .ok()
-        .filter(|n| (low..=high).contains(n))
+    u32::try_from(x).ok().filter(|n| (low..=high).contains(n))
 }
