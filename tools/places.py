@@ -50,7 +50,7 @@ def facts():
     """The facts of `requires` clauses, by how many contracts ask each."""
     seen = collections.Counter()
     for p in sources():
-        for m in re.finditer(r"^    requires(?: \w+)? \{ (.*) \}$", p.read_text(), re.M):
+        for m in re.finditer(r"^\s+requires(?: \w+)? \{ (.*) \}$", p.read_text(), re.M):
             for fact in re.split(r" × ", m.group(1)):
                 seen[re.sub(r"^\(+|\)+$", "", fact)] += 1
     return [(fact, n) for fact, n in seen.most_common() if n >= 3]

@@ -3,7 +3,7 @@ use cutters::{Ball, Cone, Cutter, Flat, RoundTool};
 use std::fmt;
 use zmap::{Fault, Offset};
 
-// The kinds of round cutters.
+// The kinds of round cutters; those of the job reader are its own, since there a number makes a kind, and here a kind makes a number.
 #[derive(Clone, Copy)]
 enum Kind {
     Flat,

@@ -80,7 +80,7 @@ fn clamped<F: Field + Drop>(
     Ok(setup.lock())
 }
 
-// Makes the poses one after the other, and prints the line of each.
+// Makes the poses one after the other, and prints the line of each; what carries out a job takes its moves, and these are none of a job.
 fn cut_all<F: Field, C: Cutter>(
     rt: &HostRuntime,
     guard: &Setup<F>,

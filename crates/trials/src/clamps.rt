@@ -104,7 +104,7 @@ fn opened(count: i32) -> Result<OpenSetup<Raster<'static>>, Fault> {
     Ok(setup)
 }
 
-// The clamp of first column, first row, last column, last row and height.
+// Makes the clamp of first column, first row, last column, last row and height; the job reader's own way of that is what other trials are about.
 pub(crate) fn clamp(words: [i32; 5]) -> Clamp {
     let [west, north, east, south, height] = words;
     Clamp {

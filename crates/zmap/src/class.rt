@@ -11,7 +11,7 @@ pub enum Class {
     Fixture,
 }
 
-// The highest class that a cut met, or clear; the order is that of the cases.
+// The highest class that a cut met, or clear; the order is that of the cases. No `Option<Class>`, since it prints itself.
 #[derive(Clone, Copy, PartialEq, Eq, PartialOrd, Ord)]
 pub enum Contact {
     Clear,

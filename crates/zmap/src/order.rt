@@ -2,15 +2,9 @@
 ghost use Rattle.std.specs.Prelude.{◌≡◌, if◌then◌else◌};
 ghost use Rattle.std.specs.Ordering.{is_lt};
 
-use std::cmp::Ordering;
-
-// The greater of two values of any kind with a total order; the first where neither is.
+// Tells the greater of two values of any kind with a total order; the first where neither is.
 pub fn greater<T: Ord + Copy>(a: T, b: T) -> T
     ensures { result ≡ (if is_lt (T.Ord.cmp a b) then b else a) }
 {
-    match a.cmp(&b) {
-        Ordering::Less => b,
-        Ordering::Equal => a,
-        Ordering::Greater => a,
-    }
+    if a.cmp(&b).is_lt() { b } else { a }
 }

@@ -1,8 +1,8 @@
 // What a fault says.
 ghost use Rattle.std.specs.Prelude.{◌≡◌};
-ghost use Rattle.zmap.specs.Faults.{parts_of, step_of, bare, at_step};
+ghost use Rattle.zmap.specs.Faults.{parts_of, bare, at_step};
 
-use crate::{Contact, End, Fault, Node, Parts};
+use crate::{Contact, Fault, Node, Parts};
 
 impl Fault {
     // The number, step, column, row and class of the fault.
@@ -28,8 +28,8 @@ impl Fault {
             Fault::Allowance => bare(16),
             Fault::CutterPitch => bare(17),
             Fault::BlockLength => bare(18),
-            Fault::NodeOff(end) => at_step(19, step_of(end)),
-            Fault::TipRange(end) => at_step(20, step_of(end)),
+            Fault::NodeOff(end) => at_step(19, end as usize),
+            Fault::TipRange(end) => at_step(20, end as usize),
             Fault::Uncovered => bare(21),
             Fault::Invaded(step, s, class) => at_sample(22, step, s, Contact::from(class)),
             Fault::BlockMet(step, s) => at_sample(23, step, s, Contact::Clear),
@@ -41,15 +41,6 @@ impl Fault {
             Fault::Kind => bare(29),
             Fault::Over => bare(30),
         }
-    }
-}
-
-fn step_of(end: End) -> usize
-    ensures { result ≡ step_of end }
-{
-    match end {
-        End::Start => 0,
-        End::Finish => 1,
     }
 }
 
