@@ -1,9 +1,9 @@
 -- The corner that a vertex in range has. Assumes nothing.
-use Rattle.std.proofs.Common.{◌≡◌, ℕ, ◌≤◌, Bool, true, false, pos, ◌+ℤ◌, nat_abs, Some, None, sym, refl, ap, ◌∙◌, subst}
+use Rattle.std.proofs.Common.{◌≡◌, ℕ, ◌≤◌, Bool, true, false, pos, ◌+ℤ◌, nat_abs, Some, None, sym, refl, ap, ◌∙◌, subst, is_some}
 use Rattle.std.proofs.Math.Bridge.{le_prop}
 use Rattle.std.proofs.lemmas.Bool.{and_from, true≢false}
 use Rattle.std.proofs.lemmas.Option.{none-some, same_Some}
-use Rattle.zmap.specs.Limits.{within}
+use Rattle.zmap.specs.Limits.{is_height, within}
 use Rattle.zmap.proofs.HeightTest.{within_told}
 use Rattle.facets.specs.declared.corner.Corner.{Corner}
 use Rattle.facets.specs.declared.facet.Vertex.{Vertex}
@@ -43,9 +43,22 @@ pub corner_off : (v : Vertex) → is_placed v ≡ false → None ≡ corner_of v
 unfolding corner_of
 corner_off v not = corner_by_off v (is_placed v) refl not
 
-pub corner_is : (v : Vertex) (k : Corner) → is_placed v ≡ true → k.at ≡ record { x = nat_abs v.x; y = nat_abs v.y } → k.z ≡ nat_abs (v.z +ℤ pos 500000) → Some k ≡ corner_of v
+-- the corner of the numbers of a vertex in range
+pub corner_is : (v : Vertex) (k : Corner) → within (pos 0) (pos 1000000) v.x ≡ true → within (pos 0) (pos 1000000) v.y ≡ true → is_height v.z ≡ true →
+    pos k.at.x ≡ v.x → pos k.at.y ≡ v.y → k.z ≡ nat_abs (v.z +ℤ pos 500000) → Some k ≡ corner_of v
 unfolding corner_of
-corner_is v k e ep ez = corner_by_is v k (is_placed v) refl e ep ez
+corner_is v k across along high x y z =
+    corner_by_is v k (is_placed v) refl (and_from _ _ (and_from _ _ across along) high)
+    (ap (λ n. record { x = n; y = k.at.y }) (ap nat_abs x) ∙ ap (λ n. record { x = nat_abs v.x; y = n }) (ap nat_abs y))
+    z
+
+has_corner_by : (v : Vertex) (b : Bool) (e : is_placed v ≡ b) → is_some (corner_by v b e) ≡ b
+has_corner_by v true e = refl
+has_corner_by v false e = refl
+
+pub has_corner : (v : Vertex) → is_some (corner_of v) ≡ is_placed v
+unfolding corner_of
+has_corner v = has_corner_by v (is_placed v) refl
 
 corner_by_some : (v : Vertex) (k : Corner) (b : Bool) (e : is_placed v ≡ b) → corner_by v b e ≡ Some k → Placed v × Told v k
 corner_by_some v k true e is = let p = placed_tested v e in (p, subst (Told v) (same_Some _ _ is) (told v e))

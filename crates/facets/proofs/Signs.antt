@@ -1,5 +1,5 @@
 -- Signed coordinates and heights as unsigned ones: means of the one are means of the other. Assumes nothing.
-use Rattle.std.proofs.Common.{◌≡◌, ℕ, suc, ◌+◌, ◌*◌, ◌<◌, ◌≤◌, true, ℤ, pos, negsuc, ◌+ℤ◌, ◌*ℤ◌, neg_ℤ, nat_abs, ◌≤ℤ◌, sym, refl, ap, arith}
+use Rattle.std.proofs.Common.{◌≡◌, ℕ, suc, ◌+◌, ◌*◌, ◌<◌, ◌≤◌, true, ℤ, pos, negsuc, ◌+ℤ◌, ◌*ℤ◌, neg_ℤ, nat_abs, ◌≤ℤ◌, sym, ap, arith}
 use Rattle.std.proofs.lemmas.Nat.{mul-le}
 use Rattle.std.proofs.lemmas.Int.{ints}
 use Rattle.facets.specs.declared.corner.Corner.{Corner}
@@ -38,8 +38,7 @@ pub record Told (v : Vertex) (k : Corner) : Type 0 where
   pub high : Less 500000 k.z v.z
 
 natural : (z : ℤ) → pos 0 ≤ℤ z → z ≡ pos (nat_abs z)
-natural (pos n) h = refl
-natural (negsuc n) h = absurd (omega (arith, ints))
+natural z h = grind (arith, ints)
 
 pub told : (v : Vertex) (e : is_placed v ≡ true) → Told v (corner_at v e)
 told v e =

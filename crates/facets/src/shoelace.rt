@@ -5,7 +5,7 @@ ghost use Rattle.facets.specs.Shoelaces.{half, swept, mean, plane_at, height_at}
 use crate::corner::Corner;
 use crate::point::Point;
 
-// One half of the shoelace formula, below 2 to the 54.
+// Computes one half of the shoelace formula, below 2 to the 54.
 fn half(p: Point, q: Corner, r: Corner) -> u64
     ensures value { result ≡ half p q.at r.at }
     ensures bound { result < 2 ^ 54 }
@@ -20,7 +20,7 @@ fn product(x: u32, y: u32) -> u64
     u64::from(x) * u64::from(y)
 }
 
-// Twice the area of p, q, r where they go round counter-clockwise, or nothing where they go the other way.
+// Computes twice the area of p, q, r where they go round counter-clockwise, or nothing where they go the other way.
 #[tactic(auto, unfolding(crate::specs::Shoelaces::swept))]
 fn swept(p: Point, q: Corner, r: Corner) -> Option<u64>
     ensures value { result ≡ swept p q.at r.at }
@@ -29,7 +29,7 @@ fn swept(p: Point, q: Corner, r: Corner) -> Option<u64>
     half(p, q, r).checked_sub(half(p, r, q))
 }
 
-// The mean of the corners' heights, rounded up, where the last two weigh v and w and all three weigh n; nothing where there are no such weights.
+// Computes the mean of the corners' heights, rounded up, where the last two weigh v and w and all three weigh n; nothing where there are no such weights.
 #[tactic(auto, unfolding(crate::specs::Shoelaces::mean))]
 fn mean(n: u64, v: u64, w: u64, a: Corner, b: Corner, c: Corner) -> Option<u64>
     requires whole { n ≤ 3000000000000 }
@@ -43,8 +43,8 @@ fn mean(n: u64, v: u64, w: u64, a: Corner, b: Corner, c: Corner) -> Option<u64>
     Some(((n - (v + w)) * u64::from(a.z) + v * u64::from(b.z) + w * u64::from(c.z)).div_ceil(n))
 }
 
-// The height over p of the plane through the corners, where they go round it counter-clockwise.
-#[tactic(auto, unfolding(crate::specs::Shoelaces::plane_at))]
+// Tells the height over p of the plane through the corners, where they go round it counter-clockwise.
+#[tactic(auto, using(crate::proofs::Heights::swept_whole), unfolding(crate::specs::Shoelaces::plane_at))]
 fn plane(p: Point, a: Corner, b: Corner, c: Corner) -> Option<u64>
     ensures value { result ≡ plane_at p a b c }
     ensures bound { IfSome result (λ k. k ≤ 1000000) }
@@ -55,7 +55,7 @@ fn plane(p: Point, a: Corner, b: Corner, c: Corner) -> Option<u64>
     mean(n, v, w, a, b, c)
 }
 
-// The height over p of the plane through the corners, in µm above the floor, where their plan covers p.
+// Tells the height over p of the plane through the corners, in µm above the floor, where their plan covers p.
 #[tactic(auto, unfolding(crate::specs::Shoelaces::height_at))]
 pub(crate) fn height(p: Point, a: Corner, b: Corner, c: Corner) -> Option<u64>
     ensures value { result ≡ height_at p a b c }

@@ -1,10 +1,11 @@
 -- The height of facets is the greatest that they give, and the first that is not sound. Assumes nothing.
-use Rattle.std.proofs.Common.{◌≡◌, ℕ, ◌<◌, ◌⊎◌, List, [], ◌∷◌, length, ℤ, ◌≤ℤ◌, Some, None, fold, Option, MatchOption, sym, refl, ◌∙◌, subst, inl, inr, ⊎_elim, arith}
+use Rattle.std.proofs.Common.{◌≡◌, ℕ, zero, suc, ◌<◌, ◌⊎◌, List, [], ◌∷◌, length, cond, ℤ, ◌≤ℤ◌, ◌<ℤ◌, Some, None, fold, Option, MatchOption, sym, refl, ap, ◌∙◌, subst, inl, inr, ⊎_elim, suc-le-suc, le_of_suc-le-suc, not-suc-le-zero, arith}
 use lib.Signed.{≤ℤ_refl}
 use Rattle.std.proofs.lemmas.Int.{ints, clamps}
 use Rattle.std.specs.Int.{int_max}
 use Rattle.std.specs.List.{AllWithin, HoldsAt}
-use Rattle.zmap.proofs.Members.{has_cases, has_first, has_more, has_none}
+use Rattle.std.specs.Ordering.{is_lt, int_cmp}
+use Rattle.zmap.proofs.Greatest.{greater_max}
 use Rattle.zmap.specs.Limits.{floor}
 use Rattle.facets.proofs.Giving.{facet_gives, gives_is}
 use Rattle.std.proofs.lemmas.Option.{none-some, same_Some}
@@ -15,83 +16,89 @@ use Rattle.facets.specs.Vertices.{Sound}
 use Rattle.facets.specs.declared.facet.Facet.{Facet}
 use Rattle.fields.specs.Drawings.{AllSound, FirstUnsound, Given, Highest, facets_height, heightened, or_given}
 
--- what one facet makes of the height z
-record Lifts (x y : ℕ) (z : ℤ) (f : Facet) (h : ℤ) : Type 0 where
-  above : z ≤ℤ h
-  over : (k : ℤ) → Gives f x y (Some k) → k ≤ℤ h
-  reached : (h ≡ z) ⊎ Gives f x y (Some h)
+greater_given : (z : ℤ) (o : Option ℤ) (r : ℤ) → MatchOption o (r ≡ z) (λ h. r ≡ cond (is_lt (int_cmp z h)) h z) → r ≡ or_given z o
+greater_given z None r is = is
+greater_given z (Some h) r is = greater_max z h r is
 
-max_either : (x y : ℤ) → (int_max x y ≡ x) ⊎ (int_max x y ≡ y)
-max_either x y = grind (arith, ints)
+pub heightened_as : (x y : ℕ) (z : ℤ) (f : Facet) (o : Option ℤ) (r : ℤ) → o ≡ facet_at f x y → MatchOption o (r ≡ z) (λ h. r ≡ cond (is_lt (int_cmp z h)) h z) → r ≡ heightened x y z f
+heightened_as x y z f o r e is = greater_given z o r is ∙ ap (or_given z) e
 
-lifts_by : (x y : ℕ) (z : ℤ) (f : Facet) (o : Option ℤ) → facet_at f x y ≡ o → Lifts x y z f (or_given z o)
-lifts_by x y z f None e =
-    record { above = ≤ℤ_refl z; over = λ k g. absurd (none-some k (sym e ∙ gives_is f x y (Some k) g)); reached = inl refl }
-lifts_by x y z f (Some h) e =
-    let gives = subst (Gives f x y) e (facet_gives f x y) in
-    record {
-      above = omega (arith, ints, clamps);
-      over = λ k g. let same = same_Some k h (sym (gives_is f x y (Some k) g) ∙ e) in omega (arith, ints, clamps);
-      reached = ⊎_elim inl (λ m. inr (subst (λ v. Gives f x y (Some v)) (sym m) gives)) (max_either z h);
-    }
+max_either : (z h : ℤ) → (int_max z h ≡ h) ⊎ ((int_max z h ≡ z) × (h <ℤ z))
+max_either z h = grind (arith, ints)
 
--- what a list of facets makes of the height z
-record Climbs (x y : ℕ) (z : ℤ) (fs : List Facet) (h : ℤ) : Type 0 where
-  above : z ≤ℤ h
-  over : (k : ℤ) → Given fs x y k → k ≤ℤ h
-  reached : (h ≡ z) ⊎ Given fs x y h
+-- over the point (x, y)
+module _ (x y : ℕ) where
+  -- what one facet makes of the height z
+  record Lifts (z : ℤ) (f : Facet) (h : ℤ) : Type 0 where
+    above : z ≤ℤ h
+    over : (k : ℤ) → Gives f x y (Some k) → k ≤ℤ h
+    reached : Gives f x y (Some h) ⊎ ((h ≡ z) × ((k : ℤ) → Gives f x y (Some k) → k <ℤ z))
 
-climbs : (x y : ℕ) (z : ℤ) (fs : List Facet) → Climbs x y z fs (fold (heightened x y) z fs)
-climbs x y z [] = record { above = ≤ℤ_refl z; over = λ k g. absurd (has_none g.0 g.1); reached = inl refl }
-climbs x y z (f ∷ fs) =
-    let one = lifts_by x y z f (facet_at f x y) refl in
-    let rest = climbs x y (heightened x y z f) fs in
-    record {
-      above = omega (arith, ints, one.above, rest.above);
-      over = λ k g.
-          ⊎_elim
-          (λ (e : f ≡ g.0). omega (arith, ints, one.over k (subst (λ q. Gives q x y (Some k)) (sym e) g.2), rest.above))
-          (λ more. rest.over k (g.0, more, g.2))
-          (has_cases f g.0 fs g.1);
-      reached =
-          ⊎_elim
-          (λ e. ⊎_elim (λ m. inl (e ∙ m)) (λ m. inr (f, has_first f fs, subst (λ v. Gives f x y (Some v)) (sym e) m)) one.reached)
-          (λ g. inr (g.0, has_more f g.0 fs g.1, g.2))
-          rest.reached;
-    }
+  lifts_by : (z : ℤ) (f : Facet) (o : Option ℤ) → facet_at f x y ≡ o → Lifts z f (or_given z o)
+  lifts_by z f None e =
+      let none : (k : ℤ) → Gives f x y (Some k) → ⊥ = λ k g. none-some k (sym e ∙ gives_is f x y (Some k) g) in
+      record { above = ≤ℤ_refl z; over = λ k g. absurd (none k g); reached = inr (refl, λ k g. absurd (none k g)) }
+  lifts_by z f (Some h) e =
+      let same : (k : ℤ) → Gives f x y (Some k) → k ≡ h = λ k g. same_Some k h (sym (gives_is f x y (Some k) g) ∙ e) in
+      record {
+        above = omega (arith, ints, clamps);
+        over = λ k g. let s = same k g in omega (arith, ints, clamps);
+        reached =
+            ⊎_elim
+            (λ m. inl (subst (λ o. Gives f x y o) (e ∙ ap Some (sym m)) (facet_gives f x y)))
+            (λ m. inr (m.0, λ k g. subst (λ j. j <ℤ z) (sym (same k g)) m.1))
+            (max_either z h);
+      }
 
--- whether some facet gives a height
-any_given : (x y : ℕ) (fs : List Facet) → ((k : ℤ) × Given fs x y k) ⊎ ((k : ℤ) → Given fs x y k → ⊥)
-any_given x y [] = inr (λ k g. has_none g.0 g.1)
-any_given x y (f ∷ fs) = ⊎_elim (λ r. inl (r.0, (r.1.0, has_more f r.1.0 fs r.1.1, r.1.2))) (λ rest. by_first (facet_at f x y) refl rest) (any_given x y fs)
-  where
-    by_first : (o : Option ℤ) → facet_at f x y ≡ o → ((k : ℤ) → Given fs x y k → ⊥) → ((k : ℤ) × Given (f ∷ fs) x y k) ⊎ ((k : ℤ) → Given (f ∷ fs) x y k → ⊥)
-    by_first (Some h) e rest = inl (h, (f, has_first f fs, subst (Gives f x y) e (facet_gives f x y)))
-    by_first None e rest =
-        inr (λ k g. ⊎_elim
-        (λ (s : f ≡ g.0). none-some k (sym e ∙ gives_is f x y (Some k) (subst (λ q. Gives q x y (Some k)) (sym s) g.2)))
-        (λ more. rest k (g.0, more, g.2))
-        (has_cases f g.0 fs g.1))
+  -- what the facets f and fs give
+  given_first : (f : Facet) (fs : List Facet) (k : ℤ) → Gives f x y (Some k) → Given (f ∷ fs) x y k
+  given_first f fs k g = (zero, f, omega arith, refl, g)
 
-pub highest : (x y : ℕ) (fs : List Facet) → Highest fs x y (facets_height fs x y)
-highest x y fs =
-    let c = climbs x y floor fs in
-    record {
-      over = c.over;
-      reached =
-          ⊎_elim
-          (λ e. ⊎_elim
-          (λ some. let high = facet_high some.1.0 x y some.0 (gives_is some.1.0 x y (Some some.0) some.1.2) in
-          let same : some.0 ≡ facets_height fs x y = omega (arith, ints, c.over some.0 some.1, high.0) in
-          inl (subst (Given fs x y) same some.1))
-          (λ none. inr (e, none))
-          (any_given x y fs))
-          inl
-          c.reached;
-    }
+  given_more : (f : Facet) (fs : List Facet) (k : ℤ) → Given fs x y k → Given (f ∷ fs) x y k
+  given_more f fs k (i, q, lt, at, g) = (suc i, q, suc-le-suc lt, at, g)
 
-pub highest_as : (x y : ℕ) (fs : List Facet) (h : ℤ) → h ≡ facets_height fs x y → Highest fs x y h
-highest_as x y fs h e = subst (Highest fs x y) (sym e) (highest x y fs)
+  given_cases : (f : Facet) (fs : List Facet) (k : ℤ) → Given (f ∷ fs) x y k → Gives f x y (Some k) ⊎ Given fs x y k
+  given_cases f fs k (zero, q, lt, at, g) = inl (subst (λ d. Gives d x y (Some k)) (sym at) g)
+  given_cases f fs k (suc i, q, lt, at, g) = inr (i, q, le_of_suc-le-suc lt, at, g)
+
+  -- what a list of facets makes of the height z
+  record Climbs (z : ℤ) (fs : List Facet) (h : ℤ) : Type 0 where
+    above : z ≤ℤ h
+    over : (k : ℤ) → Given fs x y k → k ≤ℤ h
+    reached : Given fs x y h ⊎ ((h ≡ z) × ((k : ℤ) → Given fs x y k → k <ℤ z))
+
+  climbs : (z : ℤ) (fs : List Facet) → Climbs z fs (fold (heightened x y) z fs)
+  climbs z [] =
+      record { above = ≤ℤ_refl z; over = λ k g. absurd (not-suc-le-zero g.2); reached = inr (refl, λ k g. absurd (not-suc-le-zero g.2)) }
+  climbs z (f ∷ fs) =
+      let one = lifts_by z f (facet_at f x y) refl in
+      let rest = climbs (heightened x y z f) fs in
+      record {
+        above = omega (arith, ints, one.above, rest.above);
+        over = λ k g. ⊎_elim (λ first. omega (arith, ints, one.over k first, rest.above)) (λ more. rest.over k more) (given_cases f fs k g);
+        reached =
+            ⊎_elim
+            (λ more. inl (given_more f fs _ more))
+            (λ top. ⊎_elim
+            (λ first. inl (given_first f fs _ (subst (λ v. Gives f x y (Some v)) (sym top.0) first)))
+            (λ same. inr (top.0 ∙ same.0, λ k g. ⊎_elim (λ first. same.1 k first) (λ more. subst (λ v. k <ℤ v) same.0 (top.1 k more)) (given_cases f fs k g)))
+            one.reached)
+            rest.reached;
+      }
+
+  given_high : (fs : List Facet) (k : ℤ) → Given fs x y k → floor ≤ℤ k
+  given_high fs k g = (facet_high g.1 x y k (gives_is g.1 x y (Some k) g.4)).0
+
+  pub highest : (fs : List Facet) → Highest fs x y (facets_height fs x y)
+  highest fs =
+      let c = climbs floor fs in
+      record {
+        over = c.over;
+        reached = ⊎_elim inl (λ low. inr (low.0, λ k g. omega (arith, ints, given_high fs k g, low.1 k g))) c.reached;
+      }
+
+  pub highest_as : (fs : List Facet) (h : ℤ) → h ≡ facets_height fs x y → Highest fs x y h
+  highest_as fs h e = subst (Highest fs x y) (sym e) (highest fs)
 
 -- ---- the check
 

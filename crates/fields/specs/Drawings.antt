@@ -1,7 +1,7 @@
 -- What a list of facets stands for, and what its check finds. Assumes nothing.
 use Rattle.std.specs.Prelude.{◌≡◌, ℕ, ◌*◌, ◌<◌, ◌⊎◌, List, length, ℤ, ◌≤ℤ◌, Some, None, fold, Option, slice_index_or}
 use Rattle.std.specs.Int.{int_max}
-use Rattle.std.specs.List.{ContainsAt as Has}
+use Rattle.std.specs.List.{Any}
 use Rattle.zmap.specs.Limits.{floor}
 use Rattle.zmap.specs.declared.class.Class.TheVariants.{Part}
 use Rattle.zmap.specs.declared.grid.Grid.{Grid}
@@ -35,7 +35,7 @@ facets_sample g fs n = record { height = facets_height fs (along g n.column) (al
 
 -- some facet gives the height h over the point
 abbrev pub Given : List Facet → ℕ → ℕ → ℤ → Type 0
-Given fs x y h = (f : Facet) × Has fs f × Gives f x y (Some h)
+Given fs x y h = Any (λ f. Gives f x y (Some h)) fs
 
 -- h is the greatest height that a facet gives over the point, or the floor where none gives one
 pub record Highest (fs : List Facet) (x y : ℕ) (h : ℤ) : Type 0 where

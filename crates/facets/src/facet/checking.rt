@@ -6,7 +6,7 @@ use crate::Facet;
 use crate::corner::placing::placed;
 
 impl Facet {
-    // Whether every vertex has x and y from 0 to 1,000,000 µm and a height for z.
+    // Tells whether every vertex has x and y from 0 to 1,000,000 µm and a height for z.
     pub fn is_sound(&self) -> bool
         ensures yes { T result → Sound self.now }
         ensures no { Sound self.now → T result }

@@ -10,7 +10,7 @@ use crate::shoelace::height;
 use zmap::heights::{CEILING, FLOOR};
 
 impl Facet {
-    // The height over the point (x, y) of the plan, in µm; nothing where the facet does not cover it or stands upright, and the ceiling where a vertex is out of range.
+    // Tells the height over the point (x, y) of the plan, in µm; nothing where the facet does not cover it or stands upright, and the ceiling where a vertex is out of range.
     #[tactic(auto, unfolding(crate::specs::Drawn::facet_at))]
     pub fn height_over(&self, x: u32, y: u32) -> Option<i32>
         ensures value { result ≡ facet_at self.now x y }

@@ -7,7 +7,7 @@ use zmap::Fault;
 use zmap::heights::is_height;
 
 impl Raster<'_> {
-    // Nothing, or what is wrong first: the length, then the first entry that is no height.
+    // Answers nothing, or what is wrong first: the length, then the first entry that is no height.
     pub fn check(&self) -> Result<(), Fault>
         ensures { MatchResult result (λ _. Whole self.now.grid self.now.entries.now) (λ e. Flawed self.now.grid self.now.entries.now e) }
     {
@@ -22,7 +22,7 @@ impl Raster<'_> {
     }
 }
 
-// The place of the first entry that is no height.
+// Finds the place of the first entry that is no height.
 fn first_bad(heights: &[i32]) -> Option<usize>
     ensures { MatchOption result (AllHeights heights.now) (λ i. FirstBad heights.now i) }
 {

@@ -30,7 +30,7 @@ const UNREAD: Sample = Sample {
     class: Class::Part,
 };
 
-// What the entry at a place tells, or the ceiling where it is missing or tells no height.
+// Answers what the entry at a place tells, or the ceiling where it is missing or tells no height.
 fn entry_at<T: Entry>(entries: &[T], i: usize) -> Sample
     ensures { result ≡ chart_at T.told entries.now i }
 {

@@ -21,16 +21,11 @@ impl Survey<'_> {
     }
 }
 
-// What the field tells of the sample at a place of its map.
+// Answers what the field tells of the sample at a place of its map.
 fn told_at<F: Field>(field: &F, i: usize) -> Sample
     requires { i < size (F.Field.extent field.now) }
     ensures { ToldAt (F.Field.extent field.now) (F.Field.surface field.now) i result }
 {
-    let Some(n) = field.grid().node_at(i) else {
-        unreachable()
-    };
-    let Some(s) = field.sample(n) else {
-        unreachable()
-    };
-    s
+    let n = field.grid().node_at(i).unwrap();
+    field.sample(n).unwrap()
 }

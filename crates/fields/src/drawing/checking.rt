@@ -9,7 +9,7 @@ use facets::Facet;
 use zmap::Fault;
 
 impl Facets<'_> {
-    // Nothing, or the first facet with a vertex out of range.
+    // Answers nothing, or the first facet with a vertex out of range.
     pub fn check(&self) -> Result<(), Fault>
         ensures { MatchResult result (λ _. AllSound self.now.facets.now) (λ e. (i : ℕ) × (e ≡ fault.FacetVertex i) × FirstUnsound self.now.facets.now i) }
     {
@@ -21,14 +21,14 @@ impl Facets<'_> {
     }
 }
 
-// The number of the first facet with a vertex out of range.
+// Finds the number of the first facet with a vertex out of range.
 fn first_unsound(facets: &[Facet]) -> Option<usize>
     ensures { MatchOption result (AllSound facets.now) (λ i. FirstUnsound facets.now i) }
 {
     facets.iter().position(is_unsound)
 }
 
-// Whether a facet has a vertex out of range.
+// Tells whether a facet has a vertex out of range.
 fn is_unsound(facet: &Facet) -> bool
     ensures { MatchBool result (Sound facet.now → ⊥) (Sound facet.now) }
 {

@@ -7,7 +7,7 @@ ghost use Rattle.fields.specs.Drawings.{Highest, along, facets_height, facets_sa
 use crate::Facets;
 use facets::Facet;
 use zmap::heights::FLOOR;
-use zmap::{Class, Field, Grid, Node, Pitch, Sample};
+use zmap::{Class, Field, Grid, Node, Pitch, Sample, greater};
 
 impl Field for Facets<'_> {
     ghost extent = { λ x. x.grid };
@@ -36,7 +36,7 @@ impl Field for Facets<'_> {
     }
 }
 
-// How far so many columns or rows are from the first, in µm.
+// Tells how far so many columns or rows are from the first, in µm.
 fn away(index: usize, pitch: Pitch) -> u32
     requires { index < 512 }
     ensures { result ≡ index * pitch.microns }
@@ -44,7 +44,7 @@ fn away(index: usize, pitch: Pitch) -> u32
     index as u32 * pitch.microns
 }
 
-// The greatest height that the facets give over a point, or the floor where they give none.
+// Tells the greatest height that the facets give over a point, or the floor where they give none.
 fn highest(facets: &[Facet], x: u32, y: u32) -> i32
     ensures { result ≡ facets_height facets.now x y }
 {
@@ -53,9 +53,11 @@ fn highest(facets: &[Facet], x: u32, y: u32) -> i32
         .fold(FLOOR, |height, facet| heightened(height, *facet, x, y))
 }
 
-// The greater of a height and of what the facet gives over a point, where it gives one.
+// Answers the greater of a height and of what the facet gives over a point, where it gives one.
 fn heightened(height: i32, facet: Facet, x: u32, y: u32) -> i32
     ensures { result ≡ heightened x y height facet }
 {
-    facet.height_over(x, y).map_or(height, |h| height.max(h))
+    facet
+        .height_over(x, y)
+        .map_or(height, |h| greater(height, h))
 }

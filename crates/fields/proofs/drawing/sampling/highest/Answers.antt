@@ -1,6 +1,5 @@
 -- The fold mirrors the definition.
-use Rattle.std.proofs.Common.{w32, SFits, rules}
-use Rattle.std.proofs.lemmas.Int.{to_z-of_z}
+use Rattle.std.proofs.Common.{rules}
 use Rattle.std.proofs.lemmas.Iterator.{YieldsList-from_slice}
 use Rattle.std.proofs.lemmas.Iterator.Consumers.{fold_from_yields_List}
 use Rattle.fields.specs.Drawings.{heightened}
@@ -9,5 +8,4 @@ use Rattle.fields.proofs.drawing.sampling.highest.Goals as goal
 pub returns : goal.returns
 returns c =
     let e = fold_from_yields_List _ (heightened c.args.x c.args.y) _ c.fold.result c.fold.ensures.ran (YieldsList-from_slice c.args.facets.now cc) (λ a x b q k. search rules) in
-    let f : SFits w32 c.fold.result = search rules in
-    simp (to_z-of_z w32 c.fold.result f) e
+    search rules
