@@ -34,7 +34,7 @@ impl Kind for Cutters {
     }
 }
 
-// Takes the words kind, radius, tip radius and rise as a cutter of the pitch.
+// Takes the words kind, radius, tip radius and rise as a cutter of the pitch; no TryFrom, since it needs the pitch.
 #[tactic(auto, unfolding(crate::specs::Items::fitted))]
 fn to_cutter(words: [i32; 4], pitch: Pitch) -> Result<RoundTool, Fault>
     ensures { MatchResult result (λ t. turned_of pitch.microns words ≡ Ok (turned t)) (λ e. turned_of pitch.microns words ≡ Err e) }
