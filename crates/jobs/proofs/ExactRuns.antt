@@ -11,7 +11,7 @@ use Rattle.jobs.specs.Items.{nth, count_of}
 use Rattle.jobs.specs.Sections.{count, single, listed}
 use Rattle.jobs.specs.Encodings.{Spells, InTurn, Section}
 use Rattle.jobs.proofs.Exactness.{Exact, Made, exact_record, exact_placed, exact_then, exact_same, ok_both, then_takes, spells_join, spells_split}
-use Rattle.jobs.proofs.Checks.{counted_takes, counted_gives}
+use Rattle.std.proofs.lemmas.Int.{ints}
 use Rattle.jobs.proofs.Layouts.{spread_one}
 
 module _ {X : Type 0} (width : ℕ) (f : List ℤ → Result X Fault) (section : Named) where
@@ -54,8 +54,8 @@ unfolding count
 exact_count section low high =
     exact_placed section 0 (one_record 1 (count_of low high)) (CountWord low high)
     (exact_same (one_record 1 (count_of low high)) (Made 1 (count_of low high)) (CountWord low high) (exact_record 1 (count_of low high))
-    (λ n us m. let t = counted_takes low high (nth us 0) n m.1 in (spread_one us m.0 ∙ ap (λ w. w ∷ []) t.0, t.1, t.2))
-    (λ n us w. rw w.0 (refl, counted_gives low high n w.1 w.2)))
+    (λ n us m. let t : (nth us 0 ≡ pos n) × (low ≤ n) × (n ≤ high) = grind (arith, ints, m.1) in (spread_one us m.0 ∙ ap (λ w. w ∷ []) t.0, t.1, t.2))
+    (λ n us w. rw w.0 (refl, grind (arith, ints))))
 
 -- a count that was read is in range
 pub count_within : (section : Named) (low high n : ℕ) (bs rest : List ℕ) → count section low high bs ≡ Ok (n, rest) → (low ≤ n) × (n ≤ high)

@@ -44,10 +44,6 @@ pub exact_clamps : (g : Extent) → Exact (clamps_section g.columns g.rows) (Six
 exact_clamps g =
     exact_listed 5 (clamp_of g.columns g.rows) ClampWords (λ k. clamp_fault g.columns g.rows k ≡ None) (clamp_takes g.columns g.rows) (clamp_gives g.columns g.rows) Clamps 0 16
 
--- a word that is a natural number is below 2 to the 31
-number_below : (bs : List ℕ) (n : ℕ) → number bs ≡ pos n → n ≤ 2147483647
-number_below bs n h = omega (arith, ints, h)
-
 -- any number of moves, since a word counts them
 pub exact_moves : Exact moves_section (Section MoveWords)
 exact_moves =
@@ -55,8 +51,8 @@ exact_moves =
     record {
       takes = λ ms bs rest h. let t = e.takes ms bs rest h in (t.0, t.1.0, t.2);
       gives = λ ms ws bs rest r s.
-          let n = number_below bs (length ms) (subst (λ v. Spells v bs rest) r.1 s).1 in
-          e.gives ms ws bs rest (r, λ k d lt. tt, omega arith, n) s;
+          let counted = (subst (λ v. Spells v bs rest) r.1 s).1 in
+          e.gives ms ws bs rest (r, λ k d lt. tt, omega arith, omega (arith, ints, counted)) s;
     }
 
 -- a section with no records

@@ -1,5 +1,5 @@
 -- Parsers that take exactly the words of what they give, and how they join. Assumes nothing.
-use Rattle.std.proofs.Common.{◌≡◌, ℕ, zero, suc, ◌≤◌, cond, leb, List, [], ◌∷◌, ◌++◌, length, drop, ℤ, Ok, Err, Result, sym, refl, ap, ◌∙◌, subst, append_assoc, le-leb, leb-true}
+use Rattle.std.proofs.Common.{◌≡◌, ℕ, zero, suc, ◌≤◌, cond, leb, List, [], ◌∷◌, ◌++◌, length, drop, ℤ, Ok, Err, Result, sym, refl, ap, ◌∙◌, subst, append_assoc, le-leb, leb-true, arith}
 use Rattle.std.proofs.lemmas.List.{append-nil}
 use Rattle.zmap.specs.declared.fault.Fault.{Fault}
 use Rattle.zmap.specs.declared.fault.Fault.TheVariants as fault
@@ -31,10 +31,7 @@ then_takes (Ok p) q y rest h = (p.0, p.1, refl, h)
 then_takes (Err e) q y rest h = cc
 
 word_takes : (bs : List ℕ) (w : ℤ) (rest : List ℕ) → word bs ≡ Ok (w, rest) → (4 ≤ length bs) × (number bs ≡ w) × (drop 4 bs ≡ rest)
-word_takes bs w rest h =
-    let t = cond_takes (leb 4 (length bs)) (Ok (number bs, drop 4 bs)) fault.Short (w, rest) h in
-    let p = ok_both _ _ _ _ t.1 in
-    (leb-true 4 (length bs) t.0, p.0, p.1)
+word_takes bs w rest h = grind arith
 
 words_takes : (n : ℕ) (acc out : List ℤ) (bs rest : List ℕ) → words_onto n acc bs ≡ Ok (out, rest) → (ws : List ℤ) × (out ≡ acc ++ ws) × (length ws ≡ n) × Spells ws bs rest
 unfolding words_onto
@@ -58,8 +55,7 @@ abbrev pub Made : {X : Type 0} → ℕ → (List ℤ → Result X Fault) → X �
 Made width f x us = (length us ≡ width) × (f us ≡ Ok x)
 
 leaving_takes : {X E : Type 0} (r : Result X E) (mid : List ℕ) (x : X) (rest : List ℕ) → leaving mid r ≡ Ok (x, rest) → (r ≡ Ok x) × (mid ≡ rest)
-leaving_takes (Ok y) mid x rest h = let p = ok_both _ _ _ _ h in (ap (λ v. Ok v) p.0, p.1)
-leaving_takes (Err e) mid x rest h = cc
+leaving_takes r mid x rest h = grind arith
 
 pub exact_record : {X : Type 0} (width : ℕ) (f : List ℤ → Result X Fault) → Exact (one_record width f) (Made width f)
 exact_record {X} width f = record { takes = record_takes; gives = record_gives }
@@ -77,8 +73,7 @@ exact_record {X} width f = record { takes = record_takes; gives = record_gives }
         ap (λ p. then p (λ us r. leaving r (f us))) e ∙ ap (leaving rest) m.1
 
 placed_takes : {X : Type 0} (section : Section) (at : ℕ) (r : Result X Fault) (x : X) → placed section at r ≡ Ok x → r ≡ Ok x
-placed_takes section at (Ok y) x h = cc
-placed_takes section at (Err e) x h = cc
+placed_takes section at r x h = grind arith
 
 pub exact_placed : {X : Type 0} (section : Section) (at : ℕ) (P : List ℕ → Reads X Fault) (R : X → List ℤ → Type 0) → Exact P R → Exact (λ bs. placed section at (P bs)) R
 exact_placed section at P R e =
