@@ -19,16 +19,3 @@ cond_takes false r e x h = cc
 
 pub kind_takes : (k : ℕ) (w : ℤ) → is_kind k w ≡ true → w ≡ pos k
 kind_takes k w h = grind (arith, ints)
-
-pub counted_takes : (low high : ℕ) (w : ℤ) (n : ℕ) → counted low high w ≡ Ok n → (w ≡ pos n) × (low ≤ n) × (n ≤ high)
-counted_takes low high w n h = grind (arith, ints)
-
-pub counted_gives : (low high n : ℕ) → low ≤ n → n ≤ high → counted low high (pos n) ≡ Ok n
-counted_gives low high n l h = grind (arith, ints)
-
-pub within_pos : (low high : ℕ) (w : ℤ) → within (pos low) (pos high) w ≡ true → pos (nat_abs w) ≡ w
-within_pos low high w h = grind (arith, ints)
-
--- a grid that is not refused has its three numbers in range
-pub grid_in : (a b d : Bool) → ◌≡◌ {A = Option Fault} (cond a (cond b (cond d None (Some fault.Pitch)) (Some fault.Rows)) (Some fault.Columns)) None → (a ≡ true) × (b ≡ true) × (d ≡ true)
-grid_in a b d h = grind arith

@@ -34,9 +34,6 @@ spread_one us e = spread 1 us e
 abbrev pub Gridded : Extent → Type 0
 Gridded g = (grid_fault (pos g.columns) (pos g.rows) (pos g.pitch) ≡ None) × (g.columns * g.rows ≤ 4096)
 
-same_fault : (a b d x y z : ℤ) → x ≡ a → y ≡ b → z ≡ d → grid_fault a b d ≡ None → grid_fault x y z ≡ None
-same_fault a b d x y z p q r h = rw (p, q, r) h
-
 pub grid_takes : (g : Extent) (us : List ℤ) → Made 3 extent_of g us → GridWords g us × Gridded g
 unfolding tabled
 grid_takes g us m =
@@ -47,7 +44,7 @@ grid_takes g us m =
     let p : pos (nat_abs (nth us 2)) ≡ nth us 2 = grind (arith, ints, t.0) in
     let d = cond_takes (leb (nat_abs (nth us 0) * nat_abs (nth us 1)) 4096) _ fault.Count g t.1 in
     let e : record { columns = nat_abs (nth us 0); rows = nat_abs (nth us 1); pitch = nat_abs (nth us 2) } ≡ g = cc in
-    subst (λ x. GridWords x us × Gridded x) e (rw (c, r, p) s, (same_fault _ _ _ _ _ _ c r p t.0, leb-true _ 4096 d.0))
+    subst (λ x. GridWords x us × Gridded x) e (rw (c, r, p) s, (grind (arith, ints, t.0), leb-true _ 4096 d.0))
 
 pub grid_gives : (g : Extent) (us : List ℤ) → GridWords g us → Gridded g → Made 3 extent_of g us
 grid_gives g us w a = rw w (refl, rw (a.0, le-leb _ 4096 a.1))
