@@ -1,12 +1,8 @@
 -- What it says that a check passed. Assumes nothing.
-use Rattle.std.proofs.Common.{◌≡◌, ℕ, ◌≤◌, Bool, true, false, cond, ◌&&◌, leb, ℤ, pos, negsuc, nat_abs, Some, None, Ok, Err, Option, Result, refl, ap, subst, arith, eqb-true, le-leb, leb-true}
-use Rattle.std.proofs.lemmas.Bool.{and_parts}
+use Rattle.std.proofs.Common.{◌≡◌, ℕ, Bool, true, false, cond, ℤ, pos, Some, None, Ok, Err, Option, Result, refl, arith}
 use Rattle.std.proofs.lemmas.Int.{ints}
-use Rattle.std.proofs.lemmas.Bool.Decides.{nat_tests}
-use Rattle.zmap.specs.Limits.{within}
 use Rattle.zmap.specs.declared.fault.Fault.{Fault}
-use Rattle.zmap.specs.declared.fault.Fault.TheVariants as fault
-use Rattle.jobs.specs.Items.{refusing, is_kind, counted}
+use Rattle.jobs.specs.Items.{refusing, is_kind}
 
 pub refusing_takes : {X : Type 0} (o : Option Fault) (r : Result X Fault) (x : X) → refusing o r ≡ Ok x → (o ≡ None) × (r ≡ Ok x)
 refusing_takes None r x h = (refl, h)

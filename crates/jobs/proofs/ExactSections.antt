@@ -5,7 +5,6 @@ use Rattle.std.specs.List.{All}
 use Rattle.setups.specs.declared.clamp.Clamp.{Clamp}
 use Rattle.jobs.specs.declared.section.Section.{Section as Named}
 use Rattle.jobs.specs.declared.section.Section.TheVariants.{Grid, Cutter, Heights, Clamps, Moves}
-use Rattle.jobs.specs.Parsers.{number}
 use Rattle.setups.specs.Clamps.{clamp_fault}
 use Rattle.jobs.specs.Items.{Extent, Turned, extent_of, turned_of, height_of, clamp_of, move_of}
 use Rattle.jobs.specs.Sections.{count, grid_section, cutter_section, heights_section, clamps_section, moves_section}

@@ -1,5 +1,5 @@
 -- Parsers that take exactly the words of what they give, and how they join. Assumes nothing.
-use Rattle.std.proofs.Common.{◌≡◌, ℕ, zero, suc, ◌≤◌, cond, leb, List, [], ◌∷◌, ◌++◌, length, drop, ℤ, Ok, Err, Result, sym, refl, ap, ◌∙◌, subst, append_assoc, le-leb, leb-true, arith}
+use Rattle.std.proofs.Common.{◌≡◌, ℕ, zero, suc, ◌≤◌, cond, List, [], ◌∷◌, ◌++◌, length, drop, ℤ, Ok, Err, Result, sym, refl, ap, ◌∙◌, subst, append_assoc, le-leb, arith}
 use Rattle.std.proofs.lemmas.List.{append-nil}
 use Rattle.zmap.specs.declared.fault.Fault.{Fault}
 use Rattle.zmap.specs.declared.fault.Fault.TheVariants as fault
@@ -7,7 +7,6 @@ use Rattle.jobs.specs.declared.section.Section.{Section}
 use Rattle.jobs.specs.Parsers.{Reads, then, number, word, words, words_onto}
 use Rattle.jobs.specs.Records.{leaving, one_record, placed}
 use Rattle.jobs.specs.Encodings.{Spells}
-use Rattle.jobs.proofs.Checks.{cond_takes}
 
 -- P reads a value x exactly from the words that R says of x
 pub record Exact {X E : Type 0} (P : List ℕ → Reads X E) (R : X → List ℤ → Type 0) : Type 0 where
