@@ -1,10 +1,8 @@
 -- What it says that a check passed. Assumes nothing.
-use Rattle.std.proofs.Common.{◌≡◌, ℕ, ◌≤◌, Bool, true, false, cond, ◌&&◌, leb, ℤ, pos, negsuc, nat_abs, Some, None, Ok, Err, Option, Result, refl, ap, subst, eqb-true, le-leb, leb-true}
-use Rattle.std.proofs.lemmas.Bool.{and_parts}
-use Rattle.zmap.specs.Limits.{within}
+use Rattle.std.proofs.Common.{◌≡◌, ℕ, Bool, true, false, cond, ℤ, pos, Some, None, Ok, Err, Option, Result, refl, arith}
+use Rattle.std.proofs.lemmas.Int.{ints}
 use Rattle.zmap.specs.declared.fault.Fault.{Fault}
-use Rattle.zmap.specs.declared.fault.Fault.TheVariants as fault
-use Rattle.jobs.specs.Items.{refusing, is_kind, counted}
+use Rattle.jobs.specs.Items.{refusing, is_kind}
 
 pub refusing_takes : {X : Type 0} (o : Option Fault) (r : Result X Fault) (x : X) → refusing o r ≡ Ok x → (o ≡ None) × (r ≡ Ok x)
 refusing_takes None r x h = (refl, h)
@@ -16,27 +14,4 @@ cond_takes true r e x h = (refl, h)
 cond_takes false r e x h = cc
 
 pub kind_takes : (k : ℕ) (w : ℤ) → is_kind k w ≡ true → w ≡ pos k
-kind_takes k (pos n) h = ap pos (eqb-true n k h)
-kind_takes k (negsuc n) h = cc
-
-pub counted_takes : (low high : ℕ) (w : ℤ) (n : ℕ) → counted low high w ≡ Ok n → (w ≡ pos n) × (low ≤ n) × (n ≤ high)
-counted_takes low high (pos m) n h =
-    let t = cond_takes (leb low m && leb m high) (Ok m) fault.Count n h in
-    let b = and_parts (leb low m) (leb m high) t.0 in
-    let e : m ≡ n = cc in
-    (ap pos e, subst (λ k. low ≤ k) e (leb-true low m b.0), subst (λ k. k ≤ high) e (leb-true m high b.1))
-counted_takes low high (negsuc m) n h = cc
-
-pub counted_gives : (low high n : ℕ) → low ≤ n → n ≤ high → counted low high (pos n) ≡ Ok n
-counted_gives low high n l h = rw (le-leb low n l, le-leb n high h)
-
-pub within_pos : (low high : ℕ) (w : ℤ) → within (pos low) (pos high) w ≡ true → pos (nat_abs w) ≡ w
-within_pos low high (pos n) h = refl
-within_pos low high (negsuc n) h = cc
-
--- a grid that is not refused has its three numbers in range
-pub grid_in : (a b d : Bool) → ◌≡◌ {A = Option Fault} (cond a (cond b (cond d None (Some fault.Pitch)) (Some fault.Rows)) (Some fault.Columns)) None → (a ≡ true) × (b ≡ true) × (d ≡ true)
-grid_in true true true h = (refl, refl, refl)
-grid_in true true false h = cc
-grid_in true false d h = cc
-grid_in false b d h = cc
+kind_takes k w h = grind (arith, ints)

@@ -12,7 +12,7 @@ use Rattle.jobs.specs.Jobs.{Reading, told, sections, ended, parse}
 use Rattle.jobs.specs.Encodings.{MoveWords, Section, Words, Allowed, Encodes, Decodes}
 use Rattle.jobs.proofs.Exactness.{Exact, After, exact_then, exact_end, exact_same}
 use Rattle.jobs.proofs.Checks.{cond_takes}
-use Rattle.jobs.proofs.ExactSections.{First, Second, Third, Sixth, Bare, exact_grid, exact_cutter, exact_heights, exact_clamps, exact_moves, exact_none, all_unit}
+use Rattle.jobs.proofs.ExactSections.{First, Second, Third, Sixth, Bare, exact_grid, exact_cutter, exact_heights, exact_clamps, exact_moves, exact_none}
 
 -- the words of the seven sections, one after another
 abbrev Ends : Extent → Turned → List ℤ → List Clamp → List Move → Reading → List ℤ → Type 0
@@ -83,7 +83,7 @@ laid_gives j ws r =
           w.heights,
           _,
           refl,
-          (w.third, all_unit j.heights, omega (arith, a.heights), omega (arith, a.heights)),
+          (w.third, λ k d lt. tt, omega (arith, a.heights), omega (arith, a.heights)),
           (
             0,
             pos 0 ∷ [],

@@ -1,7 +1,8 @@
 -- Runs of records and counted sections take exactly the words of their items. Assumes nothing.
 use Rattle.std.proofs.Common.{◌≡◌, ℕ, zero, suc, ◌+◌, ◌≤◌, List, [], ◌∷◌, ◌++◌, length, ℤ, pos, Ok, Result, sym, refl, ap, ◌∙◌, subst, append_assoc, arith}
 use Rattle.std.proofs.lemmas.List.{append-nil}
-use Rattle.std.specs.List.{AllByRecursion}
+use Rattle.std.proofs.lemmas.List.Elements.{All-nil, All-cons, All-head, All-tail}
+use Rattle.std.specs.List.{All}
 use Rattle.zmap.specs.declared.fault.Fault.{Fault}
 use Rattle.jobs.specs.declared.section.Section.{Section as Named}
 use Rattle.jobs.specs.Parsers.{then}
@@ -10,7 +11,7 @@ use Rattle.jobs.specs.Items.{nth, count_of}
 use Rattle.jobs.specs.Sections.{count, single, listed}
 use Rattle.jobs.specs.Encodings.{Spells, InTurn, Section}
 use Rattle.jobs.proofs.Exactness.{Exact, Made, exact_record, exact_placed, exact_then, exact_same, ok_both, then_takes, spells_join, spells_split}
-use Rattle.jobs.proofs.Checks.{counted_takes, counted_gives}
+use Rattle.std.proofs.lemmas.Int.{ints}
 use Rattle.jobs.proofs.Layouts.{spread_one}
 
 module _ {X : Type 0} (width : ℕ) (f : List ℤ → Result X Fault) (section : Named) where
@@ -53,8 +54,8 @@ unfolding count
 exact_count section low high =
     exact_placed section 0 (one_record 1 (count_of low high)) (CountWord low high)
     (exact_same (one_record 1 (count_of low high)) (Made 1 (count_of low high)) (CountWord low high) (exact_record 1 (count_of low high))
-    (λ n us m. let t = counted_takes low high (nth us 0) n m.1 in (spread_one us m.0 ∙ ap (λ w. w ∷ []) t.0, t.1, t.2))
-    (λ n us w. rw w.0 (refl, counted_gives low high n w.1 w.2)))
+    (λ n us m. let t : (nth us 0 ≡ pos n) × (low ≤ n) × (n ≤ high) = grind (arith, ints, m.1) in (spread_one us m.0 ∙ ap (λ w. w ∷ []) t.0, t.1, t.2))
+    (λ n us w. rw w.0 (refl, grind (arith, ints))))
 
 -- a count that was read is in range
 pub count_within : (section : Named) (low high n : ℕ) (bs rest : List ℕ) → count section low high bs ≡ Ok (n, rest) → (low ≤ n) × (n ≤ high)
@@ -62,18 +63,18 @@ count_within section low high n bs rest h = let t = (exact_count section low hig
 
 -- L gives the words of the records of a kind whose items meet A
 module _ {X : Type 0} (width : ℕ) (f : List ℤ → Result X Fault) (L : X → List ℤ → Type 0) (A : X → Type 0) (to : (x : X) (us : List ℤ) → Made width f x us → L x us × A x) (from : (x : X) (us : List ℤ) → L x us → A x → Made width f x us) where
-  turns_to : (xs : List X) (ws : List ℤ) → InTurn (Made width f) xs ws → InTurn L xs ws × AllByRecursion A xs
-  turns_to [] ws r = (r, tt)
+  turns_to : (xs : List X) (ws : List ℤ) → InTurn (Made width f) xs ws → InTurn L xs ws × All A xs
+  turns_to [] ws r = (r, All-nil A)
   turns_to (x ∷ xs) ws r =
-      let a = to x r.0 r.3 in let b = turns_to xs r.1 r.4 in ((r.0, r.1, r.2, a.0, b.0), (a.1, b.1))
+      let a = to x r.0 r.3 in let b = turns_to xs r.1 r.4 in ((r.0, r.1, r.2, a.0, b.0), All-cons A x xs a.1 b.1)
 
-  turns_from : (xs : List X) (ws : List ℤ) → InTurn L xs ws → AllByRecursion A xs → InTurn (Made width f) xs ws
+  turns_from : (xs : List X) (ws : List ℤ) → InTurn L xs ws → All A xs → InTurn (Made width f) xs ws
   turns_from [] ws r a = r
   turns_from (x ∷ xs) ws r a =
-      (r.0, r.1, r.2, from x r.0 r.3 a.0, turns_from xs r.1 r.4 a.1)
+      (r.0, r.1, r.2, from x r.0 r.3 (All-head A x xs a), turns_from xs r.1 r.4 (All-tail A x xs a))
 
   -- a section of as many records as its count says
-  pub exact_listed : (section : Named) (low high : ℕ) → Exact (listed section low high width f) (λ xs ws. Section L xs ws × AllByRecursion A xs × (low ≤ length xs) × (length xs ≤ high))
+  pub exact_listed : (section : Named) (low high : ℕ) → Exact (listed section low high width f) (λ xs ws. Section L xs ws × All A xs × (low ≤ length xs) × (length xs ≤ high))
   unfolding listed
   exact_listed section low high =
       exact_same _ _ _ (exact_then (count section low high) (CountWord low high) (λ n rest. records width f section n rest) (λ n xs ws. (length xs ≡ n) × InTurn (Made width f) xs ws) (exact_count section low high) (exact_records width f section))

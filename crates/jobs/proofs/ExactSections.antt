@@ -1,11 +1,10 @@
 -- Each section takes exactly the words of its records. Assumes nothing.
 use Rattle.std.proofs.Common.{◌≡◌, ℕ, ◌*◌, ◌≤◌, List, [], ◌∷◌, length, ℤ, pos, None, Ok, sym, ap, ◌∙◌, subst, arith}
 use Rattle.std.proofs.lemmas.Int.{ints}
-use Rattle.std.specs.List.{AllByRecursion}
+use Rattle.std.specs.List.{All}
 use Rattle.setups.specs.declared.clamp.Clamp.{Clamp}
 use Rattle.jobs.specs.declared.section.Section.{Section as Named}
 use Rattle.jobs.specs.declared.section.Section.TheVariants.{Grid, Cutter, Heights, Clamps, Moves}
-use Rattle.jobs.specs.Parsers.{number}
 use Rattle.setups.specs.Clamps.{clamp_fault}
 use Rattle.jobs.specs.Items.{Extent, Turned, extent_of, turned_of, height_of, clamp_of, move_of}
 use Rattle.jobs.specs.Sections.{count, grid_section, cutter_section, heights_section, clamps_section, moves_section}
@@ -22,10 +21,10 @@ abbrev pub Second : Extent → Turned → List ℤ → Type 0
 Second g t ws = Section CutterWords (t ∷ []) ws × Fitted g.pitch t
 
 abbrev pub Third : Extent → List ℤ → List ℤ → Type 0
-Third g hs ws = Section HeightWords hs ws × AllByRecursion (λ z. Unit {0}) hs × (g.columns * g.rows ≤ length hs) × (length hs ≤ g.columns * g.rows)
+Third g hs ws = Section HeightWords hs ws × All (λ z. Unit {0}) hs × (g.columns * g.rows ≤ length hs) × (length hs ≤ g.columns * g.rows)
 
 abbrev pub Sixth : Extent → List Clamp → List ℤ → Type 0
-Sixth g ks ws = Section ClampWords ks ws × AllByRecursion (λ k. clamp_fault g.columns g.rows k ≡ None) ks × (0 ≤ length ks) × (length ks ≤ 16)
+Sixth g ks ws = Section ClampWords ks ws × All (λ k. clamp_fault g.columns g.rows k ≡ None) ks × (0 ≤ length ks) × (length ks ≤ 16)
 
 pub exact_grid : Exact grid_section First
 exact_grid = exact_single 3 extent_of GridWords Gridded grid_takes grid_gives Grid
@@ -44,14 +43,6 @@ pub exact_clamps : (g : Extent) → Exact (clamps_section g.columns g.rows) (Six
 exact_clamps g =
     exact_listed 5 (clamp_of g.columns g.rows) ClampWords (λ k. clamp_fault g.columns g.rows k ≡ None) (clamp_takes g.columns g.rows) (clamp_gives g.columns g.rows) Clamps 0 16
 
--- a word that is a natural number is below 2 to the 31
-number_below : (bs : List ℕ) (n : ℕ) → number bs ≡ pos n → n ≤ 2147483647
-number_below bs n h = omega (arith, ints, h)
-
-pub all_unit : {X : Type 0} (xs : List X) → AllByRecursion (λ x. Unit {0}) xs
-all_unit [] = tt
-all_unit (x ∷ xs) = (tt, all_unit xs)
-
 -- any number of moves, since a word counts them
 pub exact_moves : Exact moves_section (Section MoveWords)
 exact_moves =
@@ -59,8 +50,8 @@ exact_moves =
     record {
       takes = λ ms bs rest h. let t = e.takes ms bs rest h in (t.0, t.1.0, t.2);
       gives = λ ms ws bs rest r s.
-          let n = number_below bs (length ms) (subst (λ v. Spells v bs rest) r.1 s).1 in
-          e.gives ms ws bs rest (r, all_unit ms, omega arith, n) s;
+          let counted = (subst (λ v. Spells v bs rest) r.1 s).1 in
+          e.gives ms ws bs rest (r, λ k d lt. tt, omega arith, omega (arith, ints, counted)) s;
     }
 
 -- a section with no records

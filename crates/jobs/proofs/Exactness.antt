@@ -1,5 +1,5 @@
 -- Parsers that take exactly the words of what they give, and how they join. Assumes nothing.
-use Rattle.std.proofs.Common.{◌≡◌, ℕ, zero, suc, ◌≤◌, cond, leb, List, [], ◌∷◌, ◌++◌, length, drop, ℤ, Ok, Err, Result, sym, refl, ap, ◌∙◌, subst, append_assoc, le-leb, leb-true}
+use Rattle.std.proofs.Common.{◌≡◌, ℕ, zero, suc, ◌≤◌, cond, List, [], ◌∷◌, ◌++◌, length, drop, ℤ, Ok, Err, Result, sym, refl, ap, ◌∙◌, subst, append_assoc, le-leb, arith}
 use Rattle.std.proofs.lemmas.List.{append-nil}
 use Rattle.zmap.specs.declared.fault.Fault.{Fault}
 use Rattle.zmap.specs.declared.fault.Fault.TheVariants as fault
@@ -7,7 +7,6 @@ use Rattle.jobs.specs.declared.section.Section.{Section}
 use Rattle.jobs.specs.Parsers.{Reads, then, number, word, words, words_onto}
 use Rattle.jobs.specs.Records.{leaving, one_record, placed}
 use Rattle.jobs.specs.Encodings.{Spells}
-use Rattle.jobs.proofs.Checks.{cond_takes}
 
 -- P reads a value x exactly from the words that R says of x
 pub record Exact {X E : Type 0} (P : List ℕ → Reads X E) (R : X → List ℤ → Type 0) : Type 0 where
@@ -30,18 +29,12 @@ pub then_takes : {X Y E : Type 0} (p : Reads X E) (q : X → List ℕ → Reads 
 then_takes (Ok p) q y rest h = (p.0, p.1, refl, h)
 then_takes (Err e) q y rest h = cc
 
-word_takes : (bs : List ℕ) (w : ℤ) (rest : List ℕ) → word bs ≡ Ok (w, rest) → (4 ≤ length bs) × (number bs ≡ w) × (drop 4 bs ≡ rest)
-word_takes bs w rest h =
-    let t = cond_takes (leb 4 (length bs)) (Ok (number bs, drop 4 bs)) fault.Short (w, rest) h in
-    let p = ok_both _ _ _ _ t.1 in
-    (leb-true 4 (length bs) t.0, p.0, p.1)
-
 words_takes : (n : ℕ) (acc out : List ℤ) (bs rest : List ℕ) → words_onto n acc bs ≡ Ok (out, rest) → (ws : List ℤ) × (out ≡ acc ++ ws) × (length ws ≡ n) × Spells ws bs rest
 unfolding words_onto
 words_takes zero acc out bs rest h = let p = ok_both _ _ _ _ h in ([], sym (append-nil acc ∙ p.0), refl, p.1)
 words_takes (suc n) acc out bs rest h =
     let t = then_takes (word bs) _ out rest h in
-    let u = word_takes bs t.0 t.1 t.2 in
+    let u : (4 ≤ length bs) × (number bs ≡ t.0) × (drop 4 bs ≡ t.1) = grind (arith, t.2) in
     let s = words_takes n (acc ++ t.0 ∷ []) out t.1 rest t.3 in
     (t.0 ∷ s.0, s.1 ∙ append_assoc acc (t.0 ∷ []) s.0, ap suc s.2, (u.0, u.1, subst (λ b. Spells s.0 b rest) (sym u.2) s.3))
 
@@ -57,10 +50,6 @@ words_gives acc (w ∷ ws) bs rest s =
 abbrev pub Made : {X : Type 0} → ℕ → (List ℤ → Result X Fault) → X → List ℤ → Type 0
 Made width f x us = (length us ≡ width) × (f us ≡ Ok x)
 
-leaving_takes : {X E : Type 0} (r : Result X E) (mid : List ℕ) (x : X) (rest : List ℕ) → leaving mid r ≡ Ok (x, rest) → (r ≡ Ok x) × (mid ≡ rest)
-leaving_takes (Ok y) mid x rest h = let p = ok_both _ _ _ _ h in (ap (λ v. Ok v) p.0, p.1)
-leaving_takes (Err e) mid x rest h = cc
-
 pub exact_record : {X : Type 0} (width : ℕ) (f : List ℤ → Result X Fault) → Exact (one_record width f) (Made width f)
 exact_record {X} width f = record { takes = record_takes; gives = record_gives }
   where
@@ -68,7 +57,7 @@ exact_record {X} width f = record { takes = record_takes; gives = record_gives }
     record_takes x bs rest h =
         let t = then_takes (words width bs) _ x rest h in
         let s = words_takes width [] t.0 bs t.1 t.2 in
-        let l = leaving_takes (f t.0) t.1 x rest t.3 in
+        let l : (f t.0 ≡ Ok x) × (t.1 ≡ rest) = grind (arith, t.3) in
         (s.0, (s.2, ap f (sym s.1) ∙ l.0), subst (λ r. Spells s.0 bs r) l.1 s.3)
 
     record_gives : (x : X) (ws : List ℤ) (bs rest : List ℕ) → Made width f x ws → Spells ws bs rest → one_record width f bs ≡ Ok (x, rest)
@@ -76,14 +65,10 @@ exact_record {X} width f = record { takes = record_takes; gives = record_gives }
         let e : words width bs ≡ Ok (ws, rest) = subst (λ n. words n bs ≡ Ok (ws, rest)) m.0 (words_gives [] ws bs rest s) in
         ap (λ p. then p (λ us r. leaving r (f us))) e ∙ ap (leaving rest) m.1
 
-placed_takes : {X : Type 0} (section : Section) (at : ℕ) (r : Result X Fault) (x : X) → placed section at r ≡ Ok x → r ≡ Ok x
-placed_takes section at (Ok y) x h = cc
-placed_takes section at (Err e) x h = cc
-
 pub exact_placed : {X : Type 0} (section : Section) (at : ℕ) (P : List ℕ → Reads X Fault) (R : X → List ℤ → Type 0) → Exact P R → Exact (λ bs. placed section at (P bs)) R
 exact_placed section at P R e =
     record {
-      takes = λ x bs rest h. e.takes x bs rest (placed_takes section at (P bs) (x, rest) h);
+      takes = λ x bs rest h. e.takes x bs rest (grind arith);
       gives = λ x ws bs rest r s. ap (placed section at) (e.gives x ws bs rest r s);
     }
 

@@ -1,5 +1,5 @@
 -- The words of each kind of record, read off from what they make. Assumes nothing.
-use Rattle.std.proofs.Common.{◌≡◌, ℕ, zero, suc, ◌*◌, ◌≤◌, Bool, true, false, cond, leb, List, [], ◌∷◌, length, ℤ, pos, nat_abs, Some, None, Ok, Option, refl, ap, ◌∙◌, subst, le-leb, leb-true}
+use Rattle.std.proofs.Common.{◌≡◌, ℕ, zero, suc, ◌*◌, ◌≤◌, Bool, true, false, cond, leb, List, [], ◌∷◌, length, ℤ, pos, nat_abs, Some, None, Ok, Option, refl, ap, ◌∙◌, subst, le-leb, leb-true, arith}
 use Rattle.zmap.specs.Faults.{grid_fault}
 use Rattle.zmap.specs.declared.fault.Fault.TheVariants as fault
 use Rattle.setups.specs.declared.clamp.Clamp.{Clamp}
@@ -9,7 +9,8 @@ use Rattle.setups.specs.Clamps.{clamp_fault}
 use Rattle.jobs.specs.Items.{nth, is_kind, Extent, extent_of, Turned, flat, cone, ball, turned_pitch, turned_fault, fitted, known, turned_in, turned_of, height_of, clamp_in, clamp_of, move_of}
 use Rattle.jobs.specs.Encodings.{GridWords, CutterWords, HeightWords, ClampWords, MoveWords}
 use Rattle.jobs.proofs.Exactness.{Made}
-use Rattle.jobs.proofs.Checks.{refusing_takes, cond_takes, kind_takes, within_pos, grid_in}
+use Rattle.std.proofs.lemmas.Int.{ints}
+use Rattle.jobs.proofs.Checks.{refusing_takes, cond_takes, kind_takes}
 
 -- the values of f below n, in their order
 tabled : ℕ → (ℕ → ℤ) → List ℤ
@@ -33,21 +34,17 @@ spread_one us e = spread 1 us e
 abbrev pub Gridded : Extent → Type 0
 Gridded g = (grid_fault (pos g.columns) (pos g.rows) (pos g.pitch) ≡ None) × (g.columns * g.rows ≤ 4096)
 
-same_fault : (a b d x y z : ℤ) → x ≡ a → y ≡ b → z ≡ d → grid_fault a b d ≡ None → grid_fault x y z ≡ None
-same_fault a b d x y z p q r h = rw (p, q, r) h
-
 pub grid_takes : (g : Extent) (us : List ℤ) → Made 3 extent_of g us → GridWords g us × Gridded g
 unfolding tabled
 grid_takes g us m =
     let s = spread 3 us m.0 in
     let t = refusing_takes (grid_fault (nth us 0) (nth us 1) (nth us 2)) _ g m.1 in
-    let i = grid_in _ _ _ t.0 in
-    let c = within_pos 1 512 (nth us 0) i.0 in
-    let r = within_pos 1 512 (nth us 1) i.1 in
-    let p = within_pos 10 1000 (nth us 2) i.2 in
+    let c : pos (nat_abs (nth us 0)) ≡ nth us 0 = grind (arith, ints, t.0) in
+    let r : pos (nat_abs (nth us 1)) ≡ nth us 1 = grind (arith, ints, t.0) in
+    let p : pos (nat_abs (nth us 2)) ≡ nth us 2 = grind (arith, ints, t.0) in
     let d = cond_takes (leb (nat_abs (nth us 0) * nat_abs (nth us 1)) 4096) _ fault.Count g t.1 in
     let e : record { columns = nat_abs (nth us 0); rows = nat_abs (nth us 1); pitch = nat_abs (nth us 2) } ≡ g = cc in
-    subst (λ x. GridWords x us × Gridded x) e (rw (c, r, p) s, (same_fault _ _ _ _ _ _ c r p t.0, leb-true _ 4096 d.0))
+    subst (λ x. GridWords x us × Gridded x) e (rw (c, r, p) s, (grind (arith, ints, t.0), leb-true _ 4096 d.0))
 
 pub grid_gives : (g : Extent) (us : List ℤ) → GridWords g us → Gridded g → Made 3 extent_of g us
 grid_gives g us w a = rw w (refl, rw (a.0, le-leb _ 4096 a.1))
@@ -58,11 +55,7 @@ Fitted pitch t = (turned_pitch t ≡ pitch) × (turned_fault t ≡ None)
 
 known_takes : (o : Option Turned) (t : Turned) → known o ≡ Ok t → (o ≡ Some t) × (turned_fault t ≡ None)
 unfolding fitted
-known_takes None t h = cc
-known_takes (Some u) t h =
-    let r = refusing_takes (turned_fault u) (Ok u) t h in
-    let e : u ≡ t = cc in
-    (ap Some e, subst (λ x. turned_fault x ≡ None) e r.0)
+known_takes o t h = grind arith
 
 -- the words of a cutter, and its pitch
 abbrev Worded : ℕ → List ℤ → Turned → Type 0

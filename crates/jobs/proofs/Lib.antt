@@ -1,3 +1,4 @@
+pub mod Cones
 pub mod Checks
 pub mod ExactJobs
 pub mod ExactRuns

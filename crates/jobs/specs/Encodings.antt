@@ -1,6 +1,6 @@
 -- What the bytes of a job are: the words of its sections in turn, four bytes each. Assumes nothing.
 use Rattle.std.specs.Prelude.{◌≡◌, ℕ, ◌*◌, ◌≤◌, List, [], ◌∷◌, ◌++◌, length, drop, ℤ, pos, None, Ok, Err, Result}
-use Rattle.std.specs.List.{AllByRecursion}
+use Rattle.std.specs.List.{All}
 use Rattle.zmap.specs.Faults.{grid_fault}
 use Rattle.setups.specs.declared.clamp.Clamp.{Clamp}
 use Rattle.jobs.specs.declared.bad.Bad.{Bad}
@@ -66,7 +66,7 @@ pub record Allowed (j : Reading) : Type 0 where
   pub cutter : turned_fault j.cutter ≡ None
   pub heights : length j.heights ≡ j.grid.columns * j.grid.rows
   pub few : length j.clamps ≤ 16
-  pub clamps : AllByRecursion (λ k. clamp_fault j.grid.columns j.grid.rows k ≡ None) j.clamps
+  pub clamps : All (λ k. clamp_fault j.grid.columns j.grid.rows k ≡ None) j.clamps
 
 -- the bytes encode the job j, which is allowed
 pub record Encodes (bs : List ℕ) (j : Reading) : Type 0 where

@@ -31,7 +31,7 @@ impl Kind for Clamps {
     }
 }
 
-// Takes the words first column, first row, last column, last row and height as a clamp on the grid.
+// Takes the words first column, first row, last column, last row and height as a clamp on the grid; no TryFrom, since it needs the grid.
 fn to_clamp(words: [i32; 5], grid: &Grid) -> Result<Clamp, Fault>
     ensures { result ≡ clamp_of grid.now.columns grid.now.rows words }
 {

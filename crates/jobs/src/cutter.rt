@@ -34,7 +34,7 @@ impl Kind for Cutters {
     }
 }
 
-// Takes the words kind, radius, tip radius and rise as a cutter of the pitch.
+// Takes the words kind, radius, tip radius and rise as a cutter of the pitch; no TryFrom, since it needs the pitch.
 #[tactic(auto, unfolding(crate::specs::Items::fitted))]
 fn to_cutter(words: [i32; 4], pitch: Pitch) -> Result<RoundTool, Fault>
     ensures { MatchResult result (λ t. turned_of pitch.microns words ≡ Ok (turned t)) (λ e. turned_of pitch.microns words ≡ Err e) }
@@ -42,8 +42,8 @@ fn to_cutter(words: [i32; 4], pitch: Pitch) -> Result<RoundTool, Fault>
     let [kind, radius, tip, rise] = words;
     let microns = pitch.microns as i32;
     match CutterKind::try_from(kind)? {
-        CutterKind::Flat => Flat::new(microns, radius).map(RoundTool::Flat),
-        CutterKind::Cone => Cone::new(microns, radius, tip, rise).map(RoundTool::Cone),
-        CutterKind::Ball => Ball::new(microns, radius).map(RoundTool::Ball),
+        CutterKind::Flat => Ok(RoundTool::Flat(Flat::new(microns, radius)?)),
+        CutterKind::Cone => Ok(RoundTool::Cone(Cone::new(microns, radius, tip, rise)?)),
+        CutterKind::Ball => Ok(RoundTool::Ball(Ball::new(microns, radius)?)),
     }
 }

@@ -1,6 +1,6 @@
 -- Clamps that a set-up without any is sure to take. Assumes nothing.
 use Rattle.std.specs.Prelude.{◌≡◌, ◌≤◌, List, [], length, None}
-use Rattle.std.specs.List.{AllByRecursion}
+use Rattle.std.specs.List.{All}
 use Rattle.zmap.specs.declared.grid.Grid.{Grid}
 use Rattle.setups.specs.Clamps.{clamp_fault}
 use Rattle.setups.specs.declared.clamp.Clamp.{Clamp}
@@ -9,4 +9,4 @@ use Rattle.setups.specs.declared.clamp.Clamp.{Clamp}
 pub record Fresh (g : Grid) (js ks : List Clamp) : Type 0 where
   pub none : js ≡ []
   pub few : length ks ≤ 16
-  pub fit : AllByRecursion (λ k. clamp_fault g.columns g.rows k ≡ None) ks
+  pub fit : All (λ k. clamp_fault g.columns g.rows k ≡ None) ks

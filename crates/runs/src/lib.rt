@@ -4,4 +4,4 @@
 mod guard;
 mod printing;
 
-pub use printing::print;
+pub use printing::run;

@@ -6,9 +6,18 @@ use crate::guard::locked;
 use jobs::{Job, Move, Store, read};
 use lines::Line;
 use milling::pose;
+use std::io::Read;
+
+// Prints the lines of the job on standard input: asks for the memory of the largest job, then reads one byte past the longest at most.
+pub fn run(rt: &HostRuntime) -> anyhow::Result<()> {
+    let store = Store::new(rt.alloc())?;
+    let mut bytes = Vec::new(rt.alloc());
+    rt.stdin().take(65537).read_to_end(&mut bytes)?;
+    print(rt, store, bytes.as_slice())
+}
 
 // Prints what each move of the job did, or why the bytes are no job.
-pub fn print(rt: &HostRuntime, store: Store, bytes: &[u8]) -> anyhow::Result<()> {
+fn print(rt: &HostRuntime, store: Store, bytes: &[u8]) -> anyhow::Result<()> {
     match read(store, bytes) {
         Ok(job) => carry_out(rt, &job),
         Err(bad) => {

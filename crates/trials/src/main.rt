@@ -13,8 +13,6 @@ mod surfaces;
 mod topic;
 mod turns;
 
-use jobs::Store;
-use std::io::Read;
 use topic::all;
 
 fn main(rt: HostRuntime) -> anyhow::Result<()> {
@@ -28,7 +26,7 @@ fn run(rt: &HostRuntime) -> anyhow::Result<()> {
     guards(rt)?;
     cuts(rt)?;
     bytes(rt)?;
-    stored(rt)
+    runs::run(rt)
 }
 
 // Grids, cutters and the lengths and heights of rasters.
@@ -92,12 +90,4 @@ fn bytes(rt: &HostRuntime) -> anyhow::Result<()> {
         &reading::amounts::AMOUNTS,
         |c| Ok(reading::built(heap, c)?),
     )
-}
-
-// The job of standard input, carried out.
-fn stored(rt: &HostRuntime) -> anyhow::Result<()> {
-    let store = Store::new(rt.alloc())?;
-    let mut bytes = Vec::new(rt.alloc());
-    rt.stdin().take(65537).read_to_end(&mut bytes)?;
-    runs::print(rt, store, bytes.as_slice())
 }

@@ -1,5 +1,6 @@
 // A cone out of plain numbers.
-ghost use Rattle.std.specs.Prelude.{◌≡◌, pos, IfOk, Some, None, MatchResult};
+ghost use Rattle.std.specs.Prelude.{◌≡◌, pos, IfOk};
+ghost use Rattle.zmap.specs.Faults.{FaultIs};
 ghost use Rattle.cutters.specs.Making.{cone_fault};
 
 use crate::{Cone, Disc};
@@ -8,7 +9,7 @@ use zmap::{Fault, within};
 impl Cone {
     // Makes a cone of such a pitch, radius, tip radius and rise, or tells the first refusal of the four.
     pub fn new(pitch: i32, radius: i32, tip: i32, rise: i32) -> Result<Cone, Fault>
-        ensures accepts { MatchResult result (λ t. cone_fault pitch radius tip rise ≡ None) (λ e. cone_fault pitch radius tip rise ≡ Some e) }
+        ensures accepts { FaultIs result (cone_fault pitch radius tip rise) }
         ensures holds { IfOk result (λ t. (pos t.disc.pitch.microns ≡ pitch) × (pos t.disc.radius ≡ radius) × (pos t.tip ≡ tip) × (pos t.rise ≡ rise)) }
     {
         let disc = Disc::new(pitch, radius)?;
