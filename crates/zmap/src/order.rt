@@ -4,7 +4,7 @@ ghost use Rattle.std.specs.Ordering.{is_lt};
 
 use std::cmp::Ordering;
 
-// The greater of two values of any kind with a total order; the first where neither is.
+// Picks the greater of two values of any kind with a total order; the first where neither is.
 pub fn greater<T: Ord + Copy>(a: T, b: T) -> T
     ensures { result ≡ (if is_lt (T.Ord.cmp a b) then b else a) }
 {
