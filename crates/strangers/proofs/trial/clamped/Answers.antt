@@ -1,20 +1,20 @@
 -- The refusals come in their order, and where none comes the first clamp is raised.
-use Rattle.std.proofs.Common.{arith, w32}
+use Rattle.std.proofs.Common.{arith}
 use Rattle.std.proofs.lemmas.Grind.{common_steps}
 use Rattle.std.proofs.lemmas.Int.{to_z-of_z}
 use Rattle.strangers.proofs.trial.clamped.Goals as goal
 
 pub returns-in_err-number-clause-accepts : goal.returns-in_err-number-clause-accepts
-returns-in_err-number-clause-accepts g c = grind (arith, common_steps, c.in_err-number.ensures, c.new-setup.ensures)
+returns-in_err-number-clause-accepts g c = grind (arith, common_steps, c.new-setup.ensures)
 
 pub returns-in_err-add-clause-accepts : goal.returns-in_err-add-clause-accepts
-returns-in_err-add-clause-accepts g c = grind (arith, common_steps, c.in_ok-number.ensures, c.new-setup.ensures)
+returns-in_err-add-clause-accepts g c = grind (arith, common_steps, c.new-setup.ensures)
 
 pub returns-in_err-raise-clause-accepts : goal.returns-in_err-raise-clause-accepts
-returns-in_err-raise-clause-accepts g c = grind (arith, common_steps, c.in_ok-number.ensures, c.new-setup.ensures, to_z-of_z w32 c.args.height c.ranges.height)
+returns-in_err-raise-clause-accepts g c = grind (arith, common_steps, c.new-setup.ensures, to_z-of_z)
 
 pub returns-clause-accepts : goal.returns-clause-accepts
-returns-clause-accepts g c = grind (arith, common_steps, c.in_ok-number.ensures, c.new-setup.ensures, to_z-of_z w32 c.args.height c.ranges.height)
+returns-clause-accepts g c = grind (arith, common_steps, c.new-setup.ensures, to_z-of_z)
 
 pub returns-clause-holds : goal.returns-clause-holds
-returns-clause-holds g c = grind (arith, common_steps, c.lock.ensures, c.new-setup.ensures, to_z-of_z w32 c.args.height c.ranges.height)
+returns-clause-holds g c = grind (arith, common_steps, c.new-setup.ensures, to_z-of_z)
