@@ -5,16 +5,16 @@ use Rattle.std.proofs.lemmas.Int.{to_z-of_z}
 use Rattle.strangers.proofs.trial.clamped.Goals as goal
 
 pub returns-in_err-number-clause-accepts : goal.returns-in_err-number-clause-accepts
-returns-in_err-number-clause-accepts g c = grind (arith, common_steps, c.new-setup.ensures)
+returns-in_err-number-clause-accepts g c = grind (arith, common_steps)
 
 pub returns-in_err-add-clause-accepts : goal.returns-in_err-add-clause-accepts
-returns-in_err-add-clause-accepts g c = grind (arith, common_steps, c.new-setup.ensures)
+returns-in_err-add-clause-accepts g c = grind (arith, common_steps)
 
 pub returns-in_err-raise-clause-accepts : goal.returns-in_err-raise-clause-accepts
-returns-in_err-raise-clause-accepts g c = grind (arith, common_steps, c.new-setup.ensures, to_z-of_z)
+returns-in_err-raise-clause-accepts g c = grind (arith, common_steps, to_z-of_z)
 
 pub returns-clause-accepts : goal.returns-clause-accepts
-returns-clause-accepts g c = grind (arith, common_steps, c.new-setup.ensures, to_z-of_z)
+returns-clause-accepts g c = grind (arith, common_steps, to_z-of_z)
 
 pub returns-clause-holds : goal.returns-clause-holds
-returns-clause-holds g c = grind (arith, common_steps, c.new-setup.ensures, to_z-of_z)
+returns-clause-holds g c = grind (arith, common_steps, to_z-of_z)
