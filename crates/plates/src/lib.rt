@@ -12,7 +12,7 @@ pub use pile::worked_pile;
 pub use slopes::worked_facets;
 use zmap::Offset;
 
-// The seven worked profiles, those of the ball first, at a pitch of 100 µm.
+// Tells the seven worked profiles, those of the ball first, at a pitch of 100 µm.
 pub fn worked_profiles() -> [Option<u32>; 7]
     ensures values { result ≡ worked }
     ensures plates { Plates }

@@ -6,7 +6,7 @@ use fields::Raster;
 use setups::{Allowance, Clamp, OpenSetup, Span, Stock};
 use zmap::{Field, Grid, Node, Sample};
 
-// What a part of one sample at 0 µm is under an allowance of 50 µm and a clamp at 50 µm.
+// Tells what a part of one sample at 0 µm is under an allowance of 50 µm and a clamp at 50 µm.
 pub fn worked_pile() -> Option<Sample>
     ensures value { result ≡ Some piled }
     ensures plates { Plates }

@@ -4,7 +4,7 @@ ghost use Rattle.plates.specs.Plates.{Plates, slope, sloped};
 
 use facets::{Facet, Vertex};
 
-// What the facet that rises and the one that falls by 100 µm give over the sample (0, 1) at a pitch of 100 µm.
+// Tells what the facet that rises and the one that falls by 100 µm give over the sample (0, 1) at a pitch of 100 µm.
 pub fn worked_facets() -> [Option<i32>; 2]
     ensures values { result ≡ sloped }
     ensures plates { Plates }
@@ -14,7 +14,7 @@ pub fn worked_facets() -> [Option<i32>; 2]
     [up, down]
 }
 
-// The facet between (0, 0, 0), (300, 0, 0) and (0, 300, z).
+// Makes the facet between (0, 0, 0), (300, 0, 0) and (0, 300, z).
 fn slope(z: i32) -> Facet
     ensures { result ≡ slope z }
 {

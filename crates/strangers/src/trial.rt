@@ -13,7 +13,7 @@ use milling::pose;
 use setups::{Clamp, OpenSetup, Setup, Span};
 use zmap::{Fault, Field, Grid, Spot};
 
-// The poses of the trial in their order: a column, a row and a tip in µm.
+// The poses of the trial in their order: a column, a row and a tip in µm. Each is a tuple, which takes a line where a `Spot` takes five.
 const POSES: [(i32, i32, i32); 12] = [
     // the far end of the hook, two columns east and one row north, stands below the second clamp
     (0, 1, 499400),

@@ -16,10 +16,11 @@ pub trait Field {
     // The height and class at each node of the map; off the map it says nothing.
     ghost surface: { Self → Place → Told };
 
+    // Tells the grid of the map.
     fn grid(&self) -> Grid
         ensures { result ≡ extent self.now };
 
-    // The height and class at a column and row, or nothing off the map.
+    // Tells the height and class at a column and row, or nothing off the map.
     fn sample(&self, n: Node) -> Option<Sample>
         ensures { MatchOption result (On (extent self.now) n → ⊥) (λ s. On (extent self.now) n × (s ≡ surface self.now n)) };
 

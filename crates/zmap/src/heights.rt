@@ -8,7 +8,7 @@ pub const FLOOR: i32 = -500000;
 // The highest height, in µm.
 pub const CEILING: i32 = 500000;
 
-// Whether z is a height: from the floor to the ceiling.
+// Tells whether z is a height: from the floor to the ceiling.
 pub fn is_height(z: i32) -> bool
     ensures { result ≡ is_height z }
 {

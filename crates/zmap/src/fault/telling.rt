@@ -5,7 +5,7 @@ ghost use Rattle.zmap.specs.Faults.{parts_of, bare, at_step};
 use crate::{Contact, Fault, Node, Parts};
 
 impl Fault {
-    // The number, step, column, row and class of the fault.
+    // Tells the number, step, column, row and class of the fault.
     pub fn parts(&self) -> Parts
         ensures { result ≡ parts_of self.now }
     {
@@ -44,18 +44,21 @@ impl Fault {
     }
 }
 
+// Makes what a fault says that names nothing but its number.
 fn bare(number: u32) -> Parts
     ensures { result ≡ bare number }
 {
     at_step(number, 0)
 }
 
+// Makes what a fault says that names a step, a place or a facet.
 fn at_step(number: u32, step: usize) -> Parts
     ensures { result ≡ at_step number step }
 {
     at_sample(number, step, Node { column: 0, row: 0 }, Contact::Clear)
 }
 
+// Makes what a fault says that names a step, a sample and its class.
 fn at_sample(number: u32, step: usize, s: Node, class: Contact) -> Parts
     ensures { result ≡ record { number = number; step = step; column = s.column; row = s.row; class = class } }
 {

@@ -5,7 +5,7 @@ ghost use Rattle.zmap.specs.Faults.{FaultIs, grid_fault};
 use crate::{Fault, Grid, Pitch, within};
 
 impl Grid {
-    // A grid of so many columns and rows and such a pitch, or the first refusal of the three.
+    // Makes a grid of so many columns and rows and such a pitch, or answers the first refusal of the three.
     pub fn new(columns: i32, rows: i32, pitch: i32) -> Result<Grid, Fault>
         ensures accepts { FaultIs result (grid_fault columns rows pitch) }
         ensures holds { IfOk result (λ g. (pos g.columns ≡ columns) × (pos g.rows ≡ rows) × (pos g.pitch.microns ≡ pitch)) }
