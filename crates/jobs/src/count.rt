@@ -46,7 +46,7 @@ impl Kind for Counts {
     }
 }
 
-// Takes the word as one of the counts.
+// Takes the word as one of the counts; no TryFrom, since which counts there are is the section's.
 fn to_count(n: i32, counts: &Counts) -> Result<usize, Fault>
     ensures { result ≡ counted counts.now.low counts.now.high n }
 {

@@ -44,7 +44,7 @@ impl Fault {
     }
 }
 
-// Makes what a fault says that names nothing but its number.
+// Makes what a fault says that names nothing but its number; here and below a number, since the rules number the faults and programs print it.
 fn bare(number: u32) -> Parts
     ensures { result ≡ bare number }
 {
