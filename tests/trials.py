@@ -46,6 +46,17 @@ def sample(column, row):
     return told(Guard(3, 2, 100, [FLOOR, 500001, -500001, 7, LOWEST], []), column, row)
 
 
+# An allowance over a part from the floor to the ceiling, and a clamp over all columns but the first.
+def layer(microns, height, column, row):
+    c, r = index(column), index(row)
+    if c >= 5 or r >= 1:
+        return "nothing"
+    below = [FLOOR, 0, 400000, 499999, CEILING][c]
+    left = min(CEILING, below + microns)
+    stands = max(left, height) if c >= 1 else left
+    return f"{stands} " + ("fixture" if stands != left else "allowance" if left != below else "part")
+
+
 def clamp(count, *words):
     fault = clamp_fault(5, 4, *words) or (14 if count >= 16 else None)
     return str(fault or count)
@@ -136,6 +147,8 @@ def answers():
         ("raster", "rasters.rt", "WHOLE", raster),
         ("raster", "rasters.rt", "LONG", raster),
         ("sample", "rasters.rt", "NODES", sample),
+        ("stock", "stocks.rt", "STOCKS", lambda microns: number(None if 0 <= microns <= 100000 else 16)),
+        ("layer", "stocks.rt", "LAYERS", layer),
         ("clamp", "clamps.rt", "CLAMPS", clamp),
         ("raise", "clamps.rt", "RAISES", lambda *w: number(raising_fault(*w))),
         ("surface", "surfaces.rt", "SURFACES", surface),

@@ -9,6 +9,7 @@ mod grids;
 mod poses;
 mod rasters;
 mod reading;
+mod stocks;
 mod surfaces;
 mod topic;
 mod turns;
@@ -39,9 +40,11 @@ fn makings(rt: &HostRuntime) -> anyhow::Result<()> {
     all(rt, "raster", &rasters::LONG, |c| Ok(rasters::checked(&c)?))
 }
 
-// Samples, clamps and new blocks.
+// Samples, allowances, clamps and new blocks.
 fn guards(rt: &HostRuntime) -> anyhow::Result<()> {
     all(rt, "sample", &rasters::NODES, |c| Ok(rasters::sampled(c)?))?;
+    all(rt, "stock", &stocks::STOCKS, |c| Ok(stocks::made(c)))?;
+    all(rt, "layer", &stocks::LAYERS, |c| Ok(stocks::layered(c)?))?;
     all(rt, "clamp", &clamps::CLAMPS, |c| Ok(clamps::added(c)))?;
     all(rt, "raise", &clamps::RAISES, |c| Ok(clamps::raised(c)))?;
     all(
