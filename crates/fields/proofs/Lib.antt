@@ -1,2 +1,3 @@
+pub mod Charting
 pub mod Summits
 pub mod Surveying

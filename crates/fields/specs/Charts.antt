@@ -1,8 +1,8 @@
 -- What a chart stands for. Assumes nothing.
-use Rattle.std.specs.Prelude.{ℕ, cond, List, ℤ, Some, None, Option}
+use Rattle.std.specs.Prelude.{◌≡◌, ℕ, ◌<◌, ◌≤◌, cond, List, length, ℤ, Some, None, Option, slice_index_or}
 use Rattle.std.specs.List.{slice_get}
 use Rattle.std.specs.Option.{option_map}
-use Rattle.zmap.specs.Limits.{ceiling, is_height}
+use Rattle.zmap.specs.Limits.{ceiling, Height, is_height}
 use Rattle.zmap.specs.Maps.{place}
 use Rattle.zmap.specs.declared.class.Class.TheVariants.{Part}
 use Rattle.zmap.specs.declared.grid.Grid.{Grid}
@@ -29,3 +29,9 @@ chart_at told es i = read (option_map told (slice_get es i))
 -- the sample at n: what the entry at its place tells
 abbrev pub chart_sample : {T : Type 0} → (T → Sample) → Grid → List T → Node → Sample
 chart_sample told g es n = chart_at told es (place g n)
+
+-- s stands at place i: what the entry there tells, where there is one whose height is in range, and else the ceiling
+pub record Charted {T : Type 0} (told : T → Sample) (es : List T) (i : ℕ) (s : Sample) : Type 0 where
+  pub entry : (d : T) → i < length es → Height (told (slice_index_or es i d)).height → s ≡ told (slice_index_or es i d)
+  pub bad : (d : T) → i < length es → (Height (told (slice_index_or es i d)).height → ⊥) → s ≡ unread
+  pub missing : length es ≤ i → s ≡ unread

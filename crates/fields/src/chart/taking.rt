@@ -7,7 +7,7 @@ use crate::Survey;
 use zmap::{Fault, Field, Sample};
 
 impl Survey<'_> {
-    // Writes every sample of the field into the memory, in row order; or a refusal where that has not one place for each, and the memory as it was.
+    // Writes every sample of the field into the memory, in row order; or refuses memory that has not one place for each, and leaves it as it was.
     pub fn take<F: Field>(field: &F, memory: &mut [Sample]) -> Result<(), Fault>
         ensures { MatchResult result (λ _. Surveyed (F.Field.extent field.now) (F.Field.surface field.now) memory.new) (λ e. Unfit (F.Field.extent field.now) memory.old memory.new e) }
     {
