@@ -16,8 +16,14 @@ impl Facet {
         ensures value { result ≡ facet_at self.now x y }
         ensures sole { Sole self.now x y result }
     {
-        let (Some(a), Some(b), Some(c)) = (corner_of(self.a), corner_of(self.b), corner_of(self.c))
-        else {
+        // one after another: a vertex out of range ends it
+        let Some(a) = corner_of(self.a) else {
+            return Some(CEILING);
+        };
+        let Some(b) = corner_of(self.b) else {
+            return Some(CEILING);
+        };
+        let Some(c) = corner_of(self.c) else {
             return Some(CEILING);
         };
         height(Point { x, y }, a, b, c).map(|h| h as i32 + FLOOR)

@@ -1,6 +1,7 @@
 // What stands at one offset from the tip: the sample there, and the underside and the guard over it.
-ghost use Rattle.std.specs.Prelude.{◌≡◌, MatchOption};
+ghost use Rattle.std.specs.Prelude.{◌≡◌, ◌≤◌, T, MatchOption};
 ghost use Rattle.zmap.specs.Maps.{On};
+ghost use Rattle.cutters.specs.Profiles.{Near};
 ghost use Rattle.milling.specs.Scans.{Bare, Stood};
 
 use crate::scan::Scan;
@@ -21,7 +22,7 @@ impl<F: Field, C: Cutter> Scan<'_, F, C> {
             MatchOption result (Bare self.now.grid P self.now.pose.node o)
             (λ c. Stood self.now.grid P self.now.pose o c.sample c.underside) }
     {
-        if o.dx.unsigned_abs() > C::REACH || o.dy.unsigned_abs() > C::REACH {
+        if !is_near(o, C::REACH) {
             return None;
         }
         let sample = self.grid.beside(self.pose.node, o)?;
@@ -39,4 +40,14 @@ impl<F: Field, C: Cutter> Scan<'_, F, C> {
     {
         self.guard.sample(s).unwrap()
     }
+}
+
+// Tells whether an offset is within the reach, on every side.
+fn is_near(o: Offset, reach: u32) -> bool
+    requires { reach ≤ 15 }
+    ensures yes { T result → Near reach o }
+    ensures no { Near reach o → T result }
+{
+    let reach = reach as i32;
+    (-reach..=reach).contains(&o.dx) && (-reach..=reach).contains(&o.dy)
 }

@@ -63,5 +63,6 @@ fn moved(i: usize, by: i32, end: usize) -> Option<usize>
     requires { (i < end) × (end ≤ 512) }
     ensures { MatchOption result ((k : ℕ) → k < end → pos k ≢ (pos i +ℤ by)) (λ k. (k < end) × (pos k ≡ (pos i +ℤ by))) }
 {
-    i.checked_add_signed(by as isize).filter(|k| *k < end)
+    let k = i as i64 + i64::from(by);
+    (0..end as i64).contains(&k).then(|| k as usize)
 }

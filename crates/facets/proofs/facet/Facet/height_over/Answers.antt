@@ -8,13 +8,13 @@ pub returns-in_default-clause-sole : goal.returns-in_default-clause-sole
 unfolding facet_at
 returns-in_default-clause-sole c = sole_as _ _ _ (search rules)
 
-pub returns-in_default-2-clause-sole : goal.returns-in_default-2-clause-sole
+pub returns-in_default-corner_of-clause-sole : goal.returns-in_default-corner_of-clause-sole
 unfolding facet_at
-returns-in_default-2-clause-sole c = sole_as _ _ _ (search rules)
+returns-in_default-corner_of-clause-sole c = sole_as _ _ _ (search rules)
 
-pub returns-in_default-3-clause-sole : goal.returns-in_default-3-clause-sole
+pub returns-in_default-corner_of-2-clause-sole : goal.returns-in_default-corner_of-2-clause-sole
 unfolding facet_at
-returns-in_default-3-clause-sole c = sole_as _ _ _ (search rules)
+returns-in_default-corner_of-2-clause-sole c = sole_as _ _ _ (search rules)
 
 pub returns-clause-sole : goal.returns-clause-sole
 unfolding facet_at

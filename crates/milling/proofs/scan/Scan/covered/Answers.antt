@@ -1,7 +1,10 @@
 -- The law of the cutter keeps the rise small, and so the sum in range.
-use Rattle.std.proofs.Common.{◌≡◌, ◌≤◌, Some, sym, rules}
+use Rattle.std.proofs.Common.{◌≡◌, ◌≤◌, Some, sym, rules, arith}
 use Rattle.zmap.specs.Limits.{Height}
 use Rattle.milling.proofs.scan.Scan.covered.Goals as goal
+
+pub is_near-requires : goal.is_near-requires
+is_near-requires g c = omega (arith, c.REACH.ensures, (g.met.C.Cutter.lawful c.args.self.now.cutter.now).narrow)
 
 pub returns : goal.returns
 returns g c =
