@@ -1,7 +1,6 @@
 -- The numbers of the sections, and the text for a bad job, as bytes. Assumes nothing.
-use Rattle.std.specs.Prelude.{ℕ, List, [], ◌∷◌, codes, decimal}
-use Rattle.zmap.specs.Faults.{parts_of}
-use Rattle.zmap.specs.Texts.{spaced}
+use Rattle.std.specs.Prelude.{ℕ, List}
+use Rattle.zmap.specs.Texts.{bad_parts, spaced}
 use Rattle.jobs.specs.declared.bad.Bad.{Bad}
 use Rattle.jobs.specs.declared.section.Section.{Section}
 use Rattle.jobs.specs.declared.section.Section.TheVariants.{Whole, Grid, Cutter, Heights, Facets, Allowance, Clamps, Moves}
@@ -19,7 +18,7 @@ section_number Moves = 7
 
 -- the words for a bad job
 abbrev pub bad_words : Bad → List (List ℕ)
-bad_words b = codes "bad" ∷ decimal (parts_of b.fault).number ∷ decimal (section_number b.section) ∷ decimal b.at ∷ []
+bad_words b = bad_parts b.fault (section_number b.section) b.at
 
 abbrev pub bad_text : Bad → List ℕ
 bad_text b = spaced (bad_words b)

@@ -1,5 +1,4 @@
 // The lines that the program prints.
-use jobs::Bad;
 use milling::Removed;
 use zmap::Fault;
 
@@ -11,6 +10,10 @@ pub enum Line {
         number: usize,
         answer: Result<Removed, Fault>,
     },
-    // why a job is bad
-    Bad(Bad),
+    // why a job is bad, with the section and the record there
+    Bad {
+        fault: Fault,
+        section: u32,
+        at: usize,
+    },
 }

@@ -26,7 +26,10 @@ impl fmt::Display for Line {
                 number,
                 answer: Err(fault),
             } => write!(f, "{number} no {fault}"),
-            Line::Bad(bad) => write!(f, "{bad}"),
+            Line::Bad { fault, section, at } => {
+                let code = fault.parts().number;
+                write!(f, "bad {code} {section} {at}")
+            }
         }
     }
 }

@@ -4,4 +4,4 @@
 mod guard;
 mod printing;
 
-pub use printing::run;
+pub use printing::{carry_out, run};

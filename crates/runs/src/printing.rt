@@ -3,33 +3,38 @@ ghost use Rattle.jobs.specs.Encodings.{Allowed};
 ghost use Rattle.jobs.specs.Jobs.{told};
 
 use crate::guard::locked;
-use jobs::{Job, Move, Store, read};
+use jobs::{Bad, Job, Move, Store, read};
 use lines::Line;
 use milling::pose;
 use std::io::Read;
 
-// Prints the lines of the job on standard input: asks for the memory of the largest job, then reads one byte past the longest at most.
+// Prints what each move of the job on standard input did, or why it is no job.
 pub fn run(rt: &HostRuntime) -> anyhow::Result<()> {
+    if let Err(Bad { fault, section, at }) = carry_out(rt)? {
+        let section = section.number();
+        let line = Line::Bad { fault, section, at };
+        println!(rt; "{line}")?;
+    }
+    Ok(())
+}
+
+// Prints what each move of the job on standard input did; or hands back why it is no job, and prints nothing.
+// Asks for the memory of the largest job, then reads one byte past the longest at most.
+pub fn carry_out(rt: &HostRuntime) -> anyhow::Result<Result<(), Bad>> {
     let store = Store::new(rt.alloc())?;
     let mut bytes = Vec::new(rt.alloc());
     rt.stdin().take(65537).read_to_end(&mut bytes)?;
-    print(rt, store, bytes.as_slice())
-}
-
-// Prints what each move of the job did, or why the bytes are no job.
-fn print(rt: &HostRuntime, store: Store, bytes: &[u8]) -> anyhow::Result<()> {
-    match read(store, bytes) {
-        Ok(job) => carry_out(rt, &job),
-        Err(bad) => {
-            let line = Line::Bad(bad);
-            println!(rt; "{line}")?;
-            Ok(())
+    match read(store, bytes.as_slice()) {
+        Ok(job) => {
+            cut(rt, &job)?;
+            Ok(Ok(()))
         }
+        Err(bad) => Ok(Err(bad)),
     }
 }
 
 // Cuts a new block by the moves of the job, and prints what each did.
-fn carry_out(rt: &HostRuntime, job: &Job) -> anyhow::Result<()>
+fn cut(rt: &HostRuntime, job: &Job) -> anyhow::Result<()>
     requires { Allowed (told job.now) }
 {
     let guard = locked(job);

@@ -14,6 +14,7 @@ mod surfaces;
 mod topic;
 mod turns;
 
+use anyhow::anyhow;
 use topic::all;
 
 fn main(rt: HostRuntime) -> anyhow::Result<()> {
@@ -27,7 +28,10 @@ fn run(rt: &HostRuntime) -> anyhow::Result<()> {
     guards(rt)?;
     cuts(rt)?;
     bytes(rt)?;
-    runs::run(rt)
+    match runs::carry_out(rt)? {
+        Ok(()) => Ok(()),
+        Err(_) => Err(anyhow!("the stored job is refused")),
+    }
 }
 
 // Grids, cutters and the lengths and heights of rasters.

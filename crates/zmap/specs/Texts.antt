@@ -1,7 +1,9 @@
--- The words for contacts and faults, as bytes. Assumes nothing.
+-- The words for contacts and faults, and for what is bad, as bytes. Assumes nothing.
 use Rattle.std.specs.Prelude.{ℕ, List, [], ◌∷◌, ◌++◌, codes, decimal}
+use Rattle.zmap.specs.Faults.{parts_of}
 use Rattle.zmap.specs.declared.class.Contact.{Contact}
 use Rattle.zmap.specs.declared.class.Contact.TheVariants.{Clear, Part, Allowance, Fixture}
+use Rattle.zmap.specs.declared.fault.Fault.{Fault}
 use Rattle.zmap.specs.declared.fault.Parts.{Parts}
 
 -- words with one space between
@@ -23,3 +25,7 @@ parts_words p = decimal p.number ∷ decimal p.step ∷ decimal p.column ∷ dec
 
 abbrev pub parts_text : Parts → List ℕ
 parts_text p = spaced (parts_words p)
+
+-- the words for what is bad: the number of its fault, and the section and the record where it is
+abbrev pub bad_parts : Fault → ℕ → ℕ → List (List ℕ)
+bad_parts e section at = codes "bad" ∷ decimal (parts_of e).number ∷ decimal section ∷ decimal at ∷ []
