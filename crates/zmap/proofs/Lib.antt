@@ -1,4 +1,5 @@
 pub mod ContactOrder
 pub mod Greatest
 pub mod HeightTest
+pub mod Members
 pub mod Places
