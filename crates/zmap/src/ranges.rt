@@ -6,7 +6,5 @@ ghost use Rattle.zmap.specs.Limits.{within};
 pub fn within(low: u32, high: u32, x: i32) -> Option<u32>
     ensures { MatchOption result (within (pos low) (pos high) x ≡ false) (λ n. (within (pos low) (pos high) x ≡ true) × (pos n ≡ x)) }
 {
-    (i64::from(low)..=i64::from(high))
-        .contains(&i64::from(x))
-        .then(|| x as u32)
+    u32::try_from(x).ok().filter(|n| (low..=high).contains(n))
 }
